@@ -1,0 +1,41 @@
+//! A list of declarations that a text may have.
+
+ghost use Rattle.std.specs.Prelude.{◌≡◌};
+
+use crate::decl::{Decl, Decls};
+use std::marker::Model;
+
+/// Declarations in the order of their text.
+#[derive(Debug, Drop)]
+pub struct Tables {
+    decls: Decls,
+}
+
+impl Model for Tables {
+    ghost use Rattle.std.specs.Prelude.{List};
+    ghost use Rattle.table_text.specs.declared.decl.Decl.{Decl};
+    ghost use Rattle.std.specs.Coded.{codes};
+    ghost use Rattle.table_text.specs.contracts.expr.Expr as expr;
+
+    ghost Value = { List Decl };
+
+    ghost coded = { Prim.hlevel (codes, expr.the_row.coded) };
+
+    ghost use Rattle.table_text.specs.Valid.{LevelsFit};
+
+    ghost view = { λ t. t.decls };
+
+    ghost invariant = { λ t. LevelsFit t.decls };
+}
+
+impl Tables {
+    ghost use Rattle.table_text.specs.Valid.{LevelsFit};
+
+    /// The declarations.
+    pub fn decls(&self) -> &[Decl]
+        ensures all { result.now ≡ self.now }
+        ensures levels { LevelsFit self.now }
+    {
+        self.decls.as_slice()
+    }
+}
