@@ -1,0 +1,4 @@
+pub mod Carried
+pub mod Powers
+pub mod Narrow
+pub mod LevelsNest

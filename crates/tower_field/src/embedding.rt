@@ -1,0 +1,17 @@
+//! Elements as the same numbers at other levels.
+
+ghost use Rattle.std.specs.Prelude.{◌≡◌, ℕ, ◌≤◌};
+
+use crate::element::Tower;
+
+/// The element of the level of `K` with the same number.
+#[tactic(auto, using(crate::proofs::LevelsNest::fits_above))]
+pub fn lift<F: Tower, K: Tower>(a: F) -> K
+    requires { F.LEVEL ≤ K.LEVEL }
+    ensures { K.number result ≡ F.number a }
+{
+    match K::from_number(a.number()) {
+        Some(element) => element,
+        None => unreachable!(),
+    }
+}

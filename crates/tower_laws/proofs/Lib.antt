@@ -1,0 +1,6 @@
+pub mod Ring
+pub mod Levels
+pub mod Field
+pub mod Rules
+pub mod Roots
+pub mod Halves

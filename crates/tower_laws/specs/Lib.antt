@@ -1,0 +1,3 @@
+pub mod Tower
+pub mod Halves
+pub mod FieldLaws
