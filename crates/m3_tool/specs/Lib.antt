@@ -1,0 +1,9 @@
+pub mod Steps
+pub mod Size
+pub mod Value
+pub mod Shape
+pub mod Digits
+pub mod Filling
+pub mod Satisfies
+pub mod Witness
+pub mod Stored
