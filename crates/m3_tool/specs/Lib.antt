@@ -2,6 +2,7 @@ pub mod Steps
 pub mod Size
 pub mod Value
 pub mod Shape
+pub mod Gives
 pub mod Digits
 pub mod Filling
 pub mod Satisfies

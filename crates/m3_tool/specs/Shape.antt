@@ -1,6 +1,6 @@
 -- The shape of tables: their names resolved, and the first fault of those that have none.
-use Rattle.std.specs.Prelude.{◌≡◌, ℕ, ◌+◌, ◌≤◌, nat_lt, nat_le, if◌then◌else◌, List, [], ◌∷◌, ◌++◌, length, map, position, Option, Some, None, option_map, Result, Ok, Err, IsTrue, Bool}
-use Rattle.std.specs.List.{list_any}
+use Rattle.std.specs.Prelude.{◌≡◌, ℕ, ◌+◌, ◌≤◌, nat_lt, nat_le, if◌then◌else◌, List, [], ◌∷◌, ◌++◌, length, map, Option, Some, None, option_map, Result, Ok, Err, IsTrue, Bool}
+use Rattle.std.specs.List.{list_any, position_from}
 use Rattle.std.specs.Str.{bytes_eq}
 use Rattle.table_text.specs.declared.expr.Expr.{Expr}
 use Rattle.table_text.specs.declared.expr.Expr.TheOpen.{Expr-F}
@@ -18,7 +18,7 @@ use Rattle.m3_tool.specs.declared.resolve.ShapeFault.{ShapeFault}
 use Rattle.m3_tool.specs.declared.resolve.ShapeKind.{ShapeKind}
 use Rattle.m3_tool.specs.declared.resolve.ShapeKind.TheVariants.{UnknownName, DoubleName, DegreeTooHigh, TooMany, NotBuilt}
 use Rattle.m3_tool.specs.Steps.{◌>>=◌}
-use Rattle.m3_tool.specs.Value.{degree, columns_below}
+use Rattle.m3_tool.specs.Value.{degree}
 
 abbrev pub max_tables : ℕ
 max_tables = 64
@@ -32,12 +32,9 @@ max_constraints = 256
 abbrev pub max_degree : ℕ
 max_degree = 8
 
--- the number of the first with this name
-abbrev pub number_of_name : List ℕ → List (List ℕ) → Option ℕ
-number_of_name name names = position (bytes_eq name) names
-
-abbrev pub is_taken_name : List ℕ → List (List ℕ) → Bool
-is_taken_name name names = list_any (bytes_eq name) names
+-- the number of the column with this name
+abbrev pub number_of_name : List ℕ → List ColumnShape → Option ℕ
+number_of_name name columns = position_from (λ c. bytes_eq name c.name) 0 columns
 
 -- all values, where each is there
 abbrev pub all_some : {X : Type 0} → List (Option X) → Option (List X)
@@ -45,15 +42,15 @@ all_some [] = Some []
 all_some (None ∷ os) = None
 all_some (Some x ∷ os) = option_map (λ xs. x ∷ xs) (all_some os)
 
-abbrev pub resolved_step : List (List ℕ) → Expr-F (Option ShapeExpr) → Option ShapeExpr
-resolved_step names (Expr-F.Number n) = Some (shaped.Number n)
-resolved_step names (Expr-F.Column name) = option_map shaped.Column (number_of_name name names)
-resolved_step names (Expr-F.Sum parts) = option_map shaped.Sum (all_some parts)
-resolved_step names (Expr-F.Product parts) = option_map shaped.Product (all_some parts)
+abbrev pub resolved_step : List ColumnShape → Expr-F (Option ShapeExpr) → Option ShapeExpr
+resolved_step columns (Expr-F.Number n) = Some (shaped.Number n)
+resolved_step columns (Expr-F.Column name) = option_map shaped.Column (number_of_name name columns)
+resolved_step columns (Expr-F.Sum parts) = option_map shaped.Sum (all_some parts)
+resolved_step columns (Expr-F.Product parts) = option_map shaped.Product (all_some parts)
 
 -- an expression with numbers of columns in place of names, where each name is known
-abbrev pub resolved : List (List ℕ) → Expr → Option ShapeExpr
-resolved names = fold-Expr (Option ShapeExpr) (resolved_step names)
+abbrev pub resolved : List ColumnShape → Expr → Option ShapeExpr
+resolved columns = fold-Expr (Option ShapeExpr) (resolved_step columns)
 
 abbrev pub fault : {X : Type 0} → ℕ → ShapeKind → Result X ShapeFault
 fault item kind = Err (record { item = item; kind = kind })
@@ -61,14 +58,11 @@ fault item kind = Err (record { item = item; kind = kind })
 abbrev pub column_names : TableShape → List (List ℕ)
 column_names table = map (λ c. c.name) table.columns
 
-abbrev pub constraint_names : TableShape → List (List ℕ)
-constraint_names table = map (λ z. z.name) table.constraints
-
 -- the table with a column more; k is the declaration's number
 abbrev pub with_column : ℕ → List ℕ → ℕ → ℕ → TableShape → Result TableShape ShapeFault
 with_column k name level log_values table =
     if nat_le max_columns (length table.columns) then fault k TooMany
-    else (if is_taken_name name (column_names table) then fault k DoubleName
+    else (if list_any (λ c. bytes_eq name c.name) table.columns then fault k DoubleName
     else Ok (record table { columns = table.columns ++ record { name = name; level = level; log_values = log_values } ∷ [] }))
 
 -- a constraint by the degree of its expression, which stands where each column's name is known
@@ -82,8 +76,8 @@ with_degree k name table (Some expr) =
 abbrev pub with_constraint : ℕ → List ℕ → Expr → TableShape → Result TableShape ShapeFault
 with_constraint k name expr table =
     if nat_le max_constraints (length table.constraints) then fault k TooMany
-    else (if is_taken_name name (constraint_names table) then fault k DoubleName
-    else with_degree k name table (resolved (column_names table) expr))
+    else (if list_any (λ z. bytes_eq name z.name) table.constraints then fault k DoubleName
+    else with_degree k name table (resolved table.columns expr))
 
 abbrev pub with_item : ℕ → Item → TableShape → Result TableShape ShapeFault
 with_item k (item.Column name level log_values) table = with_column k name level log_values table
@@ -103,7 +97,7 @@ table_names tables = map (λ t. t.name) tables
 abbrev pub begun_table : ℕ → List ℕ → List TableShape → Result TableShape ShapeFault
 begun_table k name tables =
     if nat_le max_tables (length tables) then fault k TooMany
-    else (if is_taken_name name (table_names tables) then fault k DoubleName else Ok (record { name = name; columns = []; constraints = [] }))
+    else (if list_any (λ t. bytes_eq name t.name) tables then fault k DoubleName else Ok (record { name = name; columns = []; constraints = [] }))
 
 -- the tables after these, of the declarations numbered from k on
 abbrev pub tables_of : ℕ → List Decl → List TableShape → Result (List TableShape) ShapeFault
@@ -123,14 +117,15 @@ abbrev pub ColumnsFit : List ColumnShape → Type 0
 ColumnsFit [] = Unit {0}
 ColumnsFit (c ∷ columns) = (c.level ≤ 7) × (c.log_values ≤ 7) × ColumnsFit columns
 
-abbrev pub ConstraintsFit : ℕ → List ConstraintShape → Type 0
-ConstraintsFit n [] = Unit {0}
-ConstraintsFit n (z ∷ constraints) = IsTrue (columns_below n z.expr) × (z.log_values ≡ 0) × ConstraintsFit n constraints
+abbrev pub ConstraintsFit : List ConstraintShape → Type 0
+ConstraintsFit [] = Unit {0}
+ConstraintsFit (z ∷ constraints) = (z.log_values ≤ 7) × ConstraintsFit constraints
 
+-- levels are at most 7, and so are the logarithms of numbers of values
 pub record TableFits (table : TableShape) : Type 0 where
   pub few : length table.columns ≤ max_columns
   pub columns : ColumnsFit table.columns
-  pub constraints : ConstraintsFit (length table.columns) table.constraints
+  pub constraints : ConstraintsFit table.constraints
 
 abbrev pub TablesFit : List TableShape → Type 0
 TablesFit [] = Unit {0}

@@ -1,6 +1,5 @@
 -- The value of an expression, and its degree.
-use Rattle.std.specs.Prelude.{ℕ, ◌+◌, max, nat_lt, Bool, true, List, [], ◌∷◌, bit_xor}
-use Rattle.std.specs.List.{list_all}
+use Rattle.std.specs.Prelude.{ℕ, ◌+◌, max, List, [], ◌∷◌, bit_xor}
 use Rattle.tower_laws.specs.Tower.{mul}
 use Rattle.m3_tool.specs.declared.shape.ShapeExpr.{ShapeExpr}
 use Rattle.m3_tool.specs.declared.shape.ShapeExpr.TheOpen.{ShapeExpr-F}
@@ -41,13 +40,3 @@ degree_step (ShapeExpr-F.Product parts) = total parts
 -- of a number 0, of a column 1, of a sum the greatest, of a product the sum
 abbrev pub degree : ShapeExpr → ℕ
 degree = fold-ShapeExpr ℕ degree_step
-
-abbrev pub columns_below_step : ℕ → ShapeExpr-F Bool → Bool
-columns_below_step n (ShapeExpr-F.Number c) = true
-columns_below_step n (ShapeExpr-F.Column k) = nat_lt k n
-columns_below_step n (ShapeExpr-F.Sum parts) = list_all (λ b. b) parts
-columns_below_step n (ShapeExpr-F.Product parts) = list_all (λ b. b) parts
-
--- each column's number is below n
-abbrev pub columns_below : ℕ → ShapeExpr → Bool
-columns_below n = fold-ShapeExpr Bool (columns_below_step n)

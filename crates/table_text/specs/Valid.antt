@@ -1,5 +1,5 @@
 -- What each list of declarations keeps.
-use Rattle.std.specs.Prelude.{◌≤◌, List, [], ◌∷◌}
+use Rattle.std.specs.Prelude.{ℕ, ◌+◌, ◌≤◌, List, [], ◌∷◌, length}
 use Rattle.table_text.specs.declared.decl.Item.{Item}
 use Rattle.table_text.specs.declared.decl.Item.TheVariants.{Column, Virtual, Zero, Flush}
 use Rattle.table_text.specs.declared.decl.Decl.{Decl}
@@ -18,3 +18,10 @@ LevelsFit [] = Unit {0}
 LevelsFit (Channel name width ∷ decls) = LevelsFit decls
 LevelsFit (Boundary side channel values ∷ decls) = LevelsFit decls
 LevelsFit (Table name items ∷ decls) = ItemLevelsFit items × LevelsFit decls
+
+-- how many declarations there are: channels, boundaries, tables and items
+abbrev pub declarations : List Decl → ℕ
+declarations [] = 0
+declarations (Channel name width ∷ decls) = 1 + declarations decls
+declarations (Boundary side channel values ∷ decls) = 1 + declarations decls
+declarations (Table name items ∷ decls) = 1 + length items + declarations decls

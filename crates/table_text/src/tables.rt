@@ -21,20 +21,23 @@ impl Model for Tables {
 
     ghost coded = { Prim.hlevel (codes, expr.the_row.coded) };
 
-    ghost use Rattle.table_text.specs.Valid.{LevelsFit};
+    ghost use Rattle.std.specs.Prelude.{◌≤◌};
+    ghost use Rattle.table_text.specs.Valid.{LevelsFit, declarations};
 
     ghost view = { λ t. t.decls };
 
-    ghost invariant = { λ t. LevelsFit t.decls };
+    ghost invariant = { λ t. LevelsFit t.decls × (declarations t.decls ≤ 65535) };
 }
 
 impl Tables {
-    ghost use Rattle.table_text.specs.Valid.{LevelsFit};
+    ghost use Rattle.std.specs.Prelude.{◌≤◌};
+    ghost use Rattle.table_text.specs.Valid.{LevelsFit, declarations};
 
     /// The declarations.
     pub fn decls(&self) -> &[Decl]
         ensures all { result.now ≡ self.now }
         ensures levels { LevelsFit self.now }
+        ensures few { declarations self.now ≤ 65535 }
     {
         self.decls.as_slice()
     }
