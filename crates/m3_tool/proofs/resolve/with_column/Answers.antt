@@ -9,6 +9,7 @@ returns-clause-fits c =
     let pushed = c.in_ok-push.ensures.ok in
     record {
       few = omega (arith, simp length-append at (ap length pushed));
+      few_constraints = c.requires.fits.few_constraints;
       columns = subst (λ (columns : List ColumnShape). ColumnsFit columns) (sym pushed) (ColumnsFit-push _ _ c.requires.fits.columns c.requires.level c.requires.log_values);
       constraints = c.requires.fits.constraints;
     }
