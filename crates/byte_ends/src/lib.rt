@@ -1,0 +1,17 @@
+//! The outside as traits: files on a shelf and a sink for bytes, each with counts of its faults.
+#![tactic(auto)]
+
+mod failed;
+mod putting;
+mod reading;
+mod shelf;
+mod sink;
+
+pub use failed::Failed;
+pub use putting::{WriteFault, put_whole};
+pub use reading::{WholeStop, read_whole};
+pub use shelf::Shelf;
+pub use sink::Sink;
+
+/// The error of a call that can fail by want of memory alone.
+pub type NoMemory = std::alloc::AllocError;
