@@ -1,9 +1,9 @@
-use Rattle.std.specs.Prelude.{ℕ, ◌+◌, ◌-◌, ◌^◌, ◌≤◌, min}
+use Rattle.std.specs.Prelude.{ℕ, ◌+◌, ◌-◌, ◌^◌, ◌≤◌, min, max}
 
--- one more, or the largest number of 64 bits once the count is there
+-- one more, up to the largest number of 64 bits
 abbrev pub raised : ℕ → ℕ
-raised count = min (count + 1) (2 ^ 64 - 1)
+raised count = max count (min (count + 1) (2 ^ 64 - 1))
 
 -- the count is larger than before, or stands at the largest number of 64 bits
 abbrev pub Rose : ℕ → ℕ → Type 0
-Rose before now = raised before ≤ now
+Rose before now = min (before + 1) (2 ^ 64 - 1) ≤ now

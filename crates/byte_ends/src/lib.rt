@@ -1,13 +1,17 @@
 //! The outside as traits: files on a shelf and a sink for bytes, each with counts of its faults.
 #![tactic(auto)]
 
+mod counts;
 mod failed;
+mod mem_file;
+mod mem_shelf;
 mod putting;
 mod reading;
 mod shelf;
 mod sink;
 
 pub use failed::Failed;
+pub use mem_shelf::MemShelf;
 pub use putting::{WriteFault, put_whole};
 pub use reading::{WholeStop, read_whole};
 pub use shelf::Shelf;

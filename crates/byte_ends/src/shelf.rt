@@ -14,7 +14,7 @@ pub trait Shelf {
     /// Reads bytes of a file from the place `at` on, and answers how many it gave.
     fn read(&mut self, name: &str, at: u64, into: &mut [u8]) -> Result<usize, Failed>
         ensures within { IfOk result (λ count. count ≤ length into.old) }
-        ensures given { IsTrue (state self.old).told → IfOk result (Gives (bytes_of (state self.old) name.now) into.new at) }
+        ensures given { IfOk result (λ count. IsTrue (state self.old).told → Gives (bytes_of (state self.old) name.now) into.new at count) }
         ensures quiet { OnOk result (SameFaults (state self.old) (state self.new)) }
         ensures failed { OnErr result (ReadFailed (state self.old) (state self.new) name.now) }
         ensures reads_only { ReadsOnly (state self.old) (state self.new) };
