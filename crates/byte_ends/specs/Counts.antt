@@ -7,3 +7,8 @@ raised count = max count (min (count + 1) (2 ^ 64 - 1))
 -- the count is larger than before, or stands at the largest number of 64 bits
 abbrev pub Rose : ℕ → ℕ → Type 0
 Rose before now = min (before + 1) (2 ^ 64 - 1) ≤ now
+
+-- how often reads and writes have failed
+pub record FaultCounts : Type 0 where
+  pub reads : ℕ
+  pub writes : ℕ

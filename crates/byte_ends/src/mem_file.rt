@@ -5,8 +5,9 @@ ghost use Rattle.std.specs.Str.{bytes_eq};
 ghost use Rattle.byte_ends.specs.Counts.{raised};
 ghost use Rattle.byte_ends.specs.MemFile.{FileState, bytes_in, TakesNothing, taken_count, with_bytes};
 
+use crate::NoMemory;
 use crate::counts::raise;
-use std::alloc::{AllocError, Global};
+use std::alloc::Global;
 use std::marker::Model;
 
 /// A name of a `MemShelf` that was put or reserved, and its file where one was made.
@@ -42,7 +43,7 @@ impl MemFile {
         name: &str,
         read_faults: u64,
         write_faults: u64,
-    ) -> Result<Self, AllocError>
+    ) -> Result<Self, NoMemory>
         ensures { IfOk result (λ file. file ≡ record {
           name = name.now;
           bytes = None;
@@ -92,7 +93,7 @@ impl MemFile {
     }
 
     /// Takes the memory for the room.
-    pub fn reserve(&mut self, room: usize) -> Result<(), AllocError>
+    pub fn reserve(&mut self, room: usize) -> Result<(), NoMemory>
         ensures reserved { OnOk result (self.new ≡ record self.old { room = max self.old.room room }) }
         ensures unchanged { OnErr result (self.new ≡ self.old) }
     {
@@ -104,7 +105,7 @@ impl MemFile {
     }
 
     /// Sets the bytes.
-    pub fn put(&mut self, bytes: &[u8]) -> Result<(), AllocError>
+    pub fn put(&mut self, bytes: &[u8]) -> Result<(), NoMemory>
         ensures put { OnOk result (self.new ≡ record self.old {
           bytes = Some bytes.now;
           room = max self.old.room (length bytes.now);

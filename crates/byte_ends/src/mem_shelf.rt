@@ -4,11 +4,12 @@ ghost use Rattle.byte_ends.specs.MemFile.{FileState, bytes_in, find_file, TakesN
 ghost use Rattle.byte_ends.specs.MemShelf.{MemShelfState, file_of, shelf_state, IsListed, ReadFails, CreateFails, AppendFails, given_count, with_file, called, read_faulted, write_faulted};
 ghost use Rattle.byte_ends.specs.Shelf.{bytes_of, SameFiles, SameReadFaults, SameFaults, NoCountFalls, ReadFailed, WriteFailed, ReadsOnly, Gives, Empties, Appends, Takes};
 
+use crate::NoMemory;
 use crate::counts::raise;
 use crate::failed::Failed;
 use crate::mem_file::{MemFile, place_of};
 use crate::shelf::Shelf;
-use std::alloc::{AllocError, Global};
+use std::alloc::Global;
 use std::marker::Model;
 
 /// Files in memory, which give and take pieces of at most `chunk` bytes and fail at listed calls.
@@ -84,7 +85,7 @@ impl MemShelf {
     }
 
     /// Sets a file. Its room is then at least its length.
-    pub fn put_file(&mut self, name: &str, bytes: &[u8]) -> Result<(), AllocError>
+    pub fn put_file(&mut self, name: &str, bytes: &[u8]) -> Result<(), NoMemory>
         ensures put { OnOk result (self.new ≡ with_file self.old (record (file_of self.old name.now) {
           bytes = Some bytes.now;
           room = max (file_of self.old name.now).room (length bytes.now);
@@ -111,7 +112,7 @@ impl MemShelf {
     }
 
     /// Lets the file of this name grow to `room` bytes, and makes no file. A room never falls.
-    pub fn reserve(&mut self, name: &str, room: usize) -> Result<(), AllocError>
+    pub fn reserve(&mut self, name: &str, room: usize) -> Result<(), NoMemory>
         ensures reserved { OnOk result (self.new ≡ with_file self.old (record (file_of self.old name.now) {
           room = max (file_of self.old name.now).room room;
         })) }
