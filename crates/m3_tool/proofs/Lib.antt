@@ -1,3 +1,4 @@
 pub mod ShapeSteps
 pub mod Searching
 pub mod Products
+pub mod HexDigits

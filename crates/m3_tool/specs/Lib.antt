@@ -9,3 +9,6 @@ pub mod Satisfies
 pub mod Witness
 pub mod Stored
 pub mod Judging
+pub mod Status
+pub mod Command
+pub mod Lines
