@@ -1,0 +1,4 @@
+pub mod Stacks
+pub mod Digits
+pub mod Trees
+pub mod Completes
