@@ -5,7 +5,7 @@ use Rattle.std.proofs.lemmas.Grind.{flat_map-append}
 use Rattle.std.specs.Prelude.{map, codes}
 use Rattle.std.specs.List.{flat_map}
 use Rattle.table_text.specs.Lexing.{Token, name, reserved, number, mark}
-use Rattle.table_text.specs.Grammar.{Sum, Product, Atom, constant, parens, ItemTree, column_item, zero_item, TableTree, FileTree, sum_tokens, product_tokens, atom_tokens, type_word, item_tokens, table_tokens, file_tokens, Begins}
+use Rattle.table_text.specs.Grammar.{Sum, first_term, Product, first_factor, Atom, constant, parens, ItemTree, column_item, zero_item, TableTree, FileTree, sum_tokens, product_tokens, atom_tokens, type_word, item_tokens, table_tokens, file_tokens, Begins}
 use Rattle.table_text.proofs.Trees.{plus_tokens, times_tokens, with_product, with_atom, FrameTree, outer_tokens, Part, start, column_name, column_colon, column_type, column_end, zero_name, zero_colon, operand, operator, part_tokens, items_tokens, TablePart, file, table_name, table_brace, table, table_part_tokens, spelled, product_tokens-with_atom, sum_tokens-with_product}
 
 -- a sum that begins with these tokens
@@ -44,8 +44,8 @@ complete_part column_name = one_item (column_item [] 0 (lit≤ tt)) _ (name [] �
 complete_part (column_colon w) = one_item (column_item w 0 (lit≤ tt)) _ (mark 58 ∷ name (type_word 0) ∷ mark 59 ∷ []) refl
 complete_part (column_type w) = one_item (column_item w 0 (lit≤ tt)) _ (name (type_word 0) ∷ mark 59 ∷ []) refl
 complete_part (column_end w level h) = one_item (column_item w level h) _ (mark 59 ∷ []) refl
-complete_part zero_name = one_item (zero_item [] (close_operand [] None None).tree) _ (name [] ∷ mark 58 ∷ number 0 ∷ mark 59 ∷ []) refl
-complete_part (zero_colon w) = one_item (zero_item w (close_operand [] None None).tree) _ (mark 58 ∷ number 0 ∷ mark 59 ∷ []) refl
+complete_part zero_name = one_item (zero_item [] (first_term (first_factor (constant 0)))) _ (name [] ∷ mark 58 ∷ number 0 ∷ mark 59 ∷ []) refl
+complete_part (zero_colon w) = one_item (zero_item w (first_term (first_factor (constant 0)))) _ (mark 58 ∷ number 0 ∷ mark 59 ∷ []) refl
 complete_part (operand w o s p) = zero_from w _ (close_operand o s p)
 complete_part (operator w o s p) = zero_from w _ (close o s p)
 

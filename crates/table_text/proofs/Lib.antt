@@ -2,3 +2,5 @@ pub mod Stacks
 pub mod Digits
 pub mod Trees
 pub mod Completes
+pub mod Follows
+pub mod Pieces

@@ -19,25 +19,29 @@ pub(crate) struct Piece<'a> {
 }
 
 fn word_len(bytes: &[u8]) -> usize
-    ensures { result ≡ prefix_len is_word_byte bytes.now }
+    ensures exact { result ≡ prefix_len is_word_byte bytes.now }
+    ensures within { result ≤ length bytes.now }
 {
     bytes.iter().take_while(|byte| is_word_byte(**byte)).count()
 }
 
 fn digits_len(bytes: &[u8]) -> usize
-    ensures { result ≡ prefix_len is_digit bytes.now }
+    ensures exact { result ≡ prefix_len is_digit bytes.now }
+    ensures within { result ≤ length bytes.now }
 {
     bytes.iter().take_while(|byte| is_digit(**byte)).count()
 }
 
 fn hex_digits_len(bytes: &[u8]) -> usize
-    ensures { result ≡ prefix_len is_hex_digit bytes.now }
+    ensures exact { result ≡ prefix_len is_hex_digit bytes.now }
+    ensures within { result ≤ length bytes.now }
 {
     bytes.iter().take_while(|byte| is_hex_digit(**byte)).count()
 }
 
 fn line_len(bytes: &[u8]) -> usize
-    ensures { result ≡ prefix_len (λ b. not (b == 10)) bytes.now }
+    ensures exact { result ≡ prefix_len (λ b. not (b == 10)) bytes.now }
+    ensures within { result ≤ length bytes.now }
 {
     bytes.iter().take_while(|byte| !(**byte == b'\n')).count()
 }
@@ -129,6 +133,7 @@ fn number_at(bytes: &[u8]) -> Piece<'_>
 }
 
 /// The piece at the front of bytes, which takes at least one of them.
+#[tactic(auto, using(crate::proofs::Pieces::piece_at_bounds))]
 pub(crate) fn piece_at(bytes: &[u8]) -> Piece<'_>
     requires { 0 < length bytes.now }
     ensures exact { shown_piece result ≡ piece_at bytes.now }
