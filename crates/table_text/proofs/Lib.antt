@@ -4,3 +4,5 @@ pub mod Trees
 pub mod Completes
 pub mod Follows
 pub mod Pieces
+pub mod Walks
+pub mod Accepts

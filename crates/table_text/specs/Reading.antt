@@ -1,5 +1,5 @@
 -- What the reader answers, as a function of the text.
-use Rattle.std.specs.Prelude.{◌≡◌, ℕ, ◌+◌, ◌-◌, Bool, not, ◌&&◌, nat_le, if◌then◌else◌, List, [], ◌∷◌, map, length, position, Option, Some, None, Result, Ok, Err}
+use Rattle.std.specs.Prelude.{◌≡◌, ℕ, ◌+◌, ◌-◌, Bool, not, ◌&&◌, ◌≤◌, nat_le, if◌then◌else◌, List, [], ◌∷◌, map, length, position, Option, Some, None, Result, Ok, Err}
 use Rattle.table_text.specs.Bytes.{is_text}
 use Rattle.table_text.specs.Lexing.{Token, Spot, spots}
 use Rattle.table_text.specs.Faults.{own_fault, is_mark_of, begins_declaration, max_open, max_declarations}
@@ -57,6 +57,15 @@ sound p place token (Some kind) = Err (fault_at place kind)
 -- after one token more
 abbrev pub taken : Progress → ℕ → Token → Result Progress TextFault
 taken p place token = sound p place token (own_fault token)
+
+-- after a piece, which may be no token
+abbrev pub after_piece : Progress → ℕ → Option Token → Result Progress TextFault
+after_piece p place None = Ok p
+after_piece p place (Some token) = taken p place token
+
+-- each count is at most n
+abbrev pub CountsWithin : Progress → ℕ → Type 0
+CountsWithin p n = (p.opened ≤ n) × (p.closed ≤ n) × (p.begun ≤ n)
 
 abbrev pub finished : State → ℕ → Result (List Decl) TextFault
 finished s end = if is_file_stage s.stage then Ok s.decls else Err (fault_at end Unexpected)

@@ -31,6 +31,13 @@ impl Model for Tables {
 impl Tables {
     ghost use Rattle.table_text.specs.Valid.{LevelsFit};
 
+    pub(crate) fn new(decls: Decls) -> Tables
+        requires { LevelsFit decls }
+        ensures { result ≡ decls }
+    {
+        Tables { decls }
+    }
+
     /// The declarations.
     pub fn decls(&self) -> &[Decl]
         ensures all { result.now ≡ self.now }
