@@ -6,3 +6,7 @@ pub mod Follows
 pub mod Pieces
 pub mod Walks
 pub mod Accepts
+pub mod Judged
+pub mod Verdicts
+pub mod Levels
+pub mod Clauses
