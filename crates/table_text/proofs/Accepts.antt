@@ -1,22 +1,20 @@
 -- The machine reads what each tree spells, and has then what the tree means.
-use Rattle.std.proofs.Common.{◌≡◌, ℕ, zero, suc, ◌+◌, ◌≤◌, ◌<◌, List, [], ◌∷◌, ◌++◌, Option, Some, None, refl, sym, ◌∙◌, ap, subst, append_assoc, arith}
-use Rattle.std.proofs.lemmas.List.{append-nil, map-append}
+use Rattle.std.proofs.Common.{◌≡◌, ℕ, zero, suc, ◌≤◌, List, [], ◌∷◌, ◌++◌, Option, Some, None, refl, sym, ◌∙◌, ap, subst, append_assoc, arith}
+use Rattle.std.proofs.lemmas.List.{append-nil}
 use Rattle.std.proofs.lemmas.Option.{none-some, same_Some}
-use Rattle.std.specs.Prelude.{map, codes, option_map, option_and_then}
+use Rattle.std.specs.Prelude.{map, option_map, option_and_then}
 use Rattle.std.specs.List.{flat_map}
-use Rattle.table_text.specs.Lexing.{Token, name, reserved, number, mark}
+use Rattle.table_text.specs.Lexing.{Token, name, mark}
 use Rattle.table_text.specs.Grammar.{Sum, first_term, plus, Product, first_factor, times, Atom, constant, column, parens, ItemTree, column_item, zero_item, TableTree, FileTree, sum_tokens, product_tokens, atom_tokens, atom_expr, terms, factors, sum_of, product_of, type_word, item_tokens, table_tokens, file_tokens, item_of, table_of}
-use Rattle.table_text.specs.Machine.{level_of, split_last, back_in, innermost, closed, body_at, state_at, step, run, start}
+use Rattle.table_text.specs.Machine.{level_of, back_in, innermost, body_at, state_at, step, run, start}
 use Rattle.table_text.specs.declared.expr.Expr.{Expr}
 use Rattle.table_text.specs.declared.decl.Item.{Item}
 use Rattle.table_text.specs.declared.decl.Item.TheVariants as item
 use Rattle.table_text.specs.declared.decl.Decl.{Decl}
-use Rattle.table_text.specs.declared.decl.Decl.TheVariants as decl
 use Rattle.table_text.specs.declared.formula.Frame.{Frame}
 use Rattle.table_text.specs.declared.formula.Formula.{Formula}
 use Rattle.table_text.specs.declared.body.ItemStage.{ItemStage}
 use Rattle.table_text.specs.declared.body.ItemStage.TheVariants as its
-use Rattle.table_text.specs.declared.body.Body.{Body}
 use Rattle.table_text.specs.declared.state.Stage.TheVariants as stage
 use Rattle.table_text.specs.declared.state.State.{State}
 use Rattle.table_text.proofs.Stacks.{split_last-append}
@@ -74,7 +72,7 @@ terms-parts (first_term p) = refl
 terms-parts (plus s p) = refl
 
 closes : (at : Place) (o : List Frame) (ts fs : List Expr) (s : Sum)
-  → step (behind at (o ++ frame ts fs ∷ []) (front_terms s) (last_factors s)) (mark 41) ≡ Some (behind at o ts (fs ++ atom_expr (parens s) ∷ []))
+    → step (behind at (o ++ frame ts fs ∷ []) (front_terms s) (last_factors s)) (mark 41) ≡ Some (behind at o ts (fs ++ atom_expr (parens s) ∷ []))
 closes at o ts fs s =
     let f = formula (o ++ frame ts fs ∷ []) (front_terms s) (last_factors s) in
     let into : Option Formula → Option State = λ g. option_map (λ b. state_at at.decls (stage.Table at.table b)) (option_map (λ h. body_at at.items (its.Operator at.zero h)) g) in
@@ -118,11 +116,11 @@ abbrev table_at : List Decl → List ℕ → List Item → ItemStage → State
 table_at ds w items s = state_at ds (stage.Table w (body_at items s))
 
 type_step : (ds : List Decl) (t : List ℕ) (items : List Item) (w : List ℕ) (level : ℕ) → level ≤ 7
-  → step (table_at ds t items (its.ColumnType w)) (name (type_word level)) ≡ Some (table_at ds t items (its.ColumnEnd w level))
+    → step (table_at ds t items (its.ColumnType w)) (name (type_word level)) ≡ Some (table_at ds t items (its.ColumnEnd w level))
 type_step ds t items w level h = ap (λ r. option_map (λ b. state_at ds (stage.Table t b)) (option_map (λ l. body_at items (its.ColumnEnd w l)) r)) (level_of-type_word level h)
 
 end_step : (ds : List Decl) (t : List ℕ) (items : List Item) (w : List ℕ) (s : Sum)
-  → step (table_at ds t items (its.Operator w (formula [] (front_terms s) (last_factors s)))) (mark 59) ≡ Some (table_at ds t (items ++ item.Zero w (sum_of (terms s)) ∷ []) its.Start)
+    → step (table_at ds t items (its.Operator w (formula [] (front_terms s) (last_factors s)))) (mark 59) ≡ Some (table_at ds t (items ++ item.Zero w (sum_of (terms s)) ∷ []) its.Start)
 end_step ds t items w s = ap (λ ts. Some (table_at ds t (items ++ item.Zero w (sum_of ts) ∷ []) its.Start)) (terms-parts s)
 
 item_read : (ds : List Decl) (t : List ℕ) (items : List Item) (i : ItemTree) → Leads (table_at ds t items its.Start) (item_tokens i) (table_at ds t (items ++ item_of i ∷ []) its.Start)
@@ -143,7 +141,7 @@ items_read : (ds : List Decl) (t : List ℕ) (items : List Item) (is : List Item
 items_read ds t items [] = subst (λ (js : List Item). Leads (table_at ds t items its.Start) [] (table_at ds t js its.Start)) (sym (append-nil items)) (nothing _)
 items_read ds t items (i ∷ is) =
     subst (λ (js : List Item). Leads (table_at ds t items its.Start) (item_tokens i ++ flat_map item_tokens is) (table_at ds t js its.Start)) (append_assoc items (item_of i ∷ []) (map item_of is))
-        (joined _ _ _ (item_tokens i) (flat_map item_tokens is) (item_read ds t items i) (items_read ds t (items ++ item_of i ∷ []) is))
+    (joined _ _ _ (item_tokens i) (flat_map item_tokens is) (item_read ds t items i) (items_read ds t (items ++ item_of i ∷ []) is))
 
 -- ---- tables
 
@@ -159,7 +157,7 @@ file_read : (ds : List Decl) (f : FileTree) → Leads (state_at ds stage.File) (
 file_read ds [] = subst (λ (es : List Decl). Leads (state_at ds stage.File) [] (state_at es stage.File)) (sym (append-nil ds)) (nothing _)
 file_read ds (t ∷ f) =
     subst (λ (es : List Decl). Leads (state_at ds stage.File) (table_tokens t ++ file_tokens f) (state_at es stage.File)) (append_assoc ds (table_of t ∷ []) (map table_of f))
-        (joined _ _ _ (table_tokens t) (file_tokens f) (table_read ds t) (file_read (ds ++ table_of t ∷ []) f))
+    (joined _ _ _ (table_tokens t) (file_tokens f) (table_read ds t) (file_read (ds ++ table_of t ∷ []) f))
 
 -- the machine reads each file, and has its declarations then
 pub accepts : (f : FileTree) → run start (file_tokens f) ≡ Some (state_at (map table_of f) stage.File)
@@ -181,7 +179,7 @@ prefix_read s [] ys t e = record { state = s; is = refl }
 prefix_read s (x ∷ xs) ys t e = after_step (step s x) x s xs ys t refl (λ u h. prefix_read u xs ys t h) e
 
 through : (o : Option State) (s t : State) (x : Token) (xs ys : List Token) → step s x ≡ o → option_and_then (λ v. run v xs) o ≡ Some t → ((u : State) → run u xs ≡ Some t → run u (xs ++ ys) ≡ run t ys)
-  → option_and_then (λ v. run v (xs ++ ys)) (step s x) ≡ run t ys
+    → option_and_then (λ v. run v (xs ++ ys)) (step s x) ≡ run t ys
 through None s t x xs ys is e more = absurd (none-some t e)
 through (Some u) s t x xs ys is e more = ap (option_and_then (λ v. run v (xs ++ ys))) is ∙ more u e
 

@@ -1,8 +1,7 @@
 -- What a reader may promise that answers as the reading does.
-use Rattle.std.proofs.Common.{◌≡◌, ◌≢◌, ℕ, List, Option, Result, Ok, Err, refl, sym, ◌∙◌, ap, subst}
-use Rattle.std.specs.Prelude.{IfOk}
+use Rattle.std.proofs.Common.{◌≡◌, ◌≢◌, ℕ, List, Result, Ok, Err, refl, sym, ◌∙◌, ap, subst}
 use Rattle.table_text.specs.Faults.{IsTablesText, IsFirstFault}
-use Rattle.table_text.specs.Reading.{Gives, Fails, reading}
+use Rattle.table_text.specs.Reading.{Gives, reading}
 use Rattle.table_text.specs.Valid.{LevelsFit}
 use Rattle.table_text.specs.declared.decl.Decl.{Decl}
 use Rattle.table_text.specs.declared.fault.TextFault.{TextFault}

@@ -1,12 +1,12 @@
 -- Whatever the machine has read can go on to the end of a file.
-use Rattle.std.proofs.Common.{◌≡◌, ℕ, ◌≤◌, List, [], ◌∷◌, ◌++◌, Option, Some, None, refl, sym, ◌∙◌, ap, append_assoc, lit≤}
-use Rattle.std.proofs.lemmas.List.{append-nil, map-append}
+use Rattle.std.proofs.Common.{◌≡◌, ℕ, List, [], ◌∷◌, ◌++◌, Option, refl, sym, ◌∙◌, ap, append_assoc, lit≤}
+use Rattle.std.proofs.lemmas.List.{append-nil}
 use Rattle.std.proofs.lemmas.Grind.{flat_map-append}
-use Rattle.std.specs.Prelude.{map, codes}
+use Rattle.std.specs.Prelude.{codes}
 use Rattle.std.specs.List.{flat_map}
 use Rattle.table_text.specs.Lexing.{Token, name, reserved, number, mark}
-use Rattle.table_text.specs.Grammar.{Sum, first_term, Product, first_factor, Atom, constant, parens, ItemTree, column_item, zero_item, TableTree, FileTree, sum_tokens, product_tokens, atom_tokens, type_word, item_tokens, table_tokens, file_tokens, Begins}
-use Rattle.table_text.proofs.Trees.{plus_tokens, times_tokens, with_product, with_atom, FrameTree, outer_tokens, Part, start, column_name, column_colon, column_type, column_end, zero_name, zero_colon, operand, operator, part_tokens, items_tokens, TablePart, file, table_name, table_brace, table, table_part_tokens, spelled, product_tokens-with_atom, sum_tokens-with_product}
+use Rattle.table_text.specs.Grammar.{Sum, first_term, Product, first_factor, constant, parens, ItemTree, column_item, zero_item, TableTree, FileTree, sum_tokens, product_tokens, type_word, item_tokens, table_tokens, file_tokens, Begins}
+use Rattle.table_text.proofs.Trees.{plus_tokens, times_tokens, with_product, with_atom, FrameTree, outer_tokens, Part, start, column_name, column_colon, column_type, column_end, zero_name, zero_colon, operand, operator, part_tokens, TablePart, file, table_name, table_brace, table, table_part_tokens, spelled, product_tokens-with_atom, sum_tokens-with_product}
 
 -- a sum that begins with these tokens
 pub record SumFrom (tokens : List Token) : Type 0 where
@@ -60,11 +60,11 @@ empty_table w = record { name = w; items = [] }
 
 table_from : (w : List ℕ) (items : List ItemTree) (tokens : List Token) → ItemsFrom tokens → TablesFrom (reserved (codes "table") ∷ name w ∷ mark 123 ∷ (flat_map item_tokens items ++ tokens))
 table_from w items tokens r = record {
-    tables = record { name = w; items = items ++ r.items } ∷ [];
-    more = r.more ++ mark 125 ∷ [];
-    is = append-nil _ ∙ ap (λ ts. reserved (codes "table") ∷ name w ∷ mark 123 ∷ ts)
-        (ap (λ ts. ts ++ mark 125 ∷ []) (flat_map-append item_tokens items r.items ∙ ap (λ ts. flat_map item_tokens items ++ ts) r.is) ∙ simp append_assoc refl);
-  }
+  tables = record { name = w; items = items ++ r.items } ∷ [];
+  more = r.more ++ mark 125 ∷ [];
+  is = append-nil _ ∙ ap (λ ts. reserved (codes "table") ∷ name w ∷ mark 123 ∷ ts)
+      (ap (λ ts. ts ++ mark 125 ∷ []) (flat_map-append item_tokens items r.items ∙ ap (λ ts. flat_map item_tokens items ++ ts) r.is) ∙ simp append_assoc refl);
+}
 
 complete_table : (part : TablePart) → TablesFrom (table_part_tokens part)
 complete_table file = record { tables = []; more = []; is = refl }

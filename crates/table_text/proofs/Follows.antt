@@ -1,5 +1,5 @@
 -- Where the machine goes, the trees go, and they spell the token that it took.
-use Rattle.std.proofs.Common.{◌≡◌, ◌≢◌, ℕ, suc, ◌+◌, ◌-◌, ◌≤◌, ◌<◌, ◌⊎◌, inl, inr, Bool, true, false, cond, ◌&&◌, List, [], ◌∷◌, ◌++◌, length, Option, Some, None, refl, sym, ◌∙◌, ap, subst, append_assoc, length-append, arith}
+use Rattle.std.proofs.Common.{◌≡◌, ℕ, suc, ◌+◌, ◌-◌, ◌≤◌, ◌<◌, ◌⊎◌, inl, inr, Bool, true, false, cond, ◌&&◌, List, [], ◌∷◌, ◌++◌, length, Option, Some, None, refl, sym, ◌∙◌, ap, subst, append_assoc, length-append, arith}
 use Rattle.std.proofs.lemmas.List.{append-nil, map-append}
 use Rattle.std.proofs.lemmas.Grind.{flat_map-append}
 use Rattle.std.proofs.lemmas.Option.{cond_some, none-some, same_Some}
@@ -10,8 +10,8 @@ use Rattle.std.specs.List.{flat_map}
 use Rattle.std.specs.Str.{bytes_eq}
 use Rattle.table_text.specs.Lexing.{Token, name, reserved, number, mark, wrong}
 use Rattle.table_text.specs.Faults.{is_mark_of}
-use Rattle.table_text.specs.Grammar.{Sum, Product, Atom, constant, column, parens, ItemTree, column_item, zero_item, TableTree, FileTree, sum_tokens, product_tokens, atom_tokens, atom_expr, terms, factors, sum_of, product_of, type_word, type_words, item_tokens, table_tokens, file_tokens, item_of, table_of}
-use Rattle.table_text.specs.Machine.{name_of, is_word, place_among, level_of, split_last, put_front, back_in, innermost, closed, body_at, body_step, operand_step, operator_step, stage_step, step, run, state_at, is_start}
+use Rattle.table_text.specs.Grammar.{Sum, Product, Atom, constant, column, parens, ItemTree, column_item, zero_item, TableTree, FileTree, product_tokens, atom_tokens, atom_expr, factors, sum_of, product_of, type_word, type_words, item_tokens, table_tokens, file_tokens, item_of, table_of}
+use Rattle.table_text.specs.Machine.{name_of, is_word, place_among, level_of, back_in, innermost, closed, body_at, body_step, operand_step, operator_step, stage_step, step, state_at, is_start}
 use Rattle.table_text.specs.declared.formula.Formula.{Formula}
 use Rattle.table_text.specs.declared.expr.Expr.{Expr}
 use Rattle.table_text.specs.declared.decl.Item.TheVariants as item
@@ -95,10 +95,10 @@ pub place_among-is : (n : ℕ) (words : List (List ℕ)) (w : List ℕ) (level :
 place_among-is n [] w level e = absurd (none-some level e)
 place_among-is n (word ∷ words) w level e =
     elim (chosen (bytes_eq w word) (Some n) (place_among (n + 1) words w) (Some level) e) [
-      inl h ↦ let l : n ≡ level = same_Some _ _ h.1 in (omega arith, omega arith, (bytes_eq-Decides w word).0 h.0 ∙ ap (λ k. at_place k (word ∷ words)) (let z : 0 ≡ level - n = omega arith in z))
-    | inr h ↦ let r : (n + 1 ≤ level) × (level < n + 1 + length words) × (w ≡ at_place (level - (n + 1)) words) = place_among-is (n + 1) words w level h.1 in
-        let le : n + 1 ≤ level = r.0 in let lt : level < n + 1 + length words = r.1 in
-        (omega arith, omega arith, r.2 ∙ ap (λ k. at_place k (word ∷ words)) (let z : suc (level - (n + 1)) ≡ level - n = omega arith in z))
+      | inl h ↦ let l : n ≡ level = same_Some _ _ h.1 in (omega arith, omega arith, (bytes_eq-Decides w word).0 h.0 ∙ ap (λ k. at_place k (word ∷ words)) (let z : 0 ≡ level - n = omega arith in z))
+      | inr h ↦ let r : (n + 1 ≤ level) × (level < n + 1 + length words) × (w ≡ at_place (level - (n + 1)) words) = place_among-is (n + 1) words w level h.1 in
+          let le : n + 1 ≤ level = r.0 in let lt : level < n + 1 + length words = r.1 in
+          (omega arith, omega arith, r.2 ∙ ap (λ k. at_place k (word ∷ words)) (let z : suc (level - (n + 1)) ≡ level - n = omega arith in z))
     ]
 
 pub record IsLevel (w : List ℕ) (level : ℕ) : Type 0 where
@@ -122,20 +122,20 @@ pub record FollowsBody (items : List ItemTree) (part : Part) (t : Token) (b : Bo
 -- the part alone changes
 stays : (items : List ItemTree) (part next : Part) (t u : Token) (b : Body) → t ≡ u → part_tokens next ≡ part_tokens part ++ u ∷ [] → body_at (map item_of items) (stage_of next) ≡ b → FollowsBody items part t b
 stays items part next t u b same spell shown = record {
-    items' = items;
-    part' = next;
-    shown = shown;
-    spelled = ap (λ ts. flat_map item_tokens items ++ ts) (spell ∙ ap (λ v. part_tokens part ++ v ∷ []) (sym same)) ∙ sym (append_assoc (flat_map item_tokens items) (part_tokens part) (t ∷ []));
-  }
+  items' = items;
+  part' = next;
+  shown = shown;
+  spelled = ap (λ ts. flat_map item_tokens items ++ ts) (spell ∙ ap (λ v. part_tokens part ++ v ∷ []) (sym same)) ∙ sym (append_assoc (flat_map item_tokens items) (part_tokens part) (t ∷ []));
+}
 
 -- an item is finished
 ends : (items : List ItemTree) (part : Part) (i : ItemTree) (t u : Token) (b : Body) → t ≡ u → item_tokens i ≡ part_tokens part ++ u ∷ [] → body_at (map item_of items ++ item_of i ∷ []) (stage_of start) ≡ b → FollowsBody items part t b
 ends items part i t u b same spell shown = record {
-    items' = items ++ i ∷ [];
-    part' = start;
-    shown = ap (λ is. body_at is (stage_of start)) (map-append item_of items (i ∷ [])) ∙ shown;
-    spelled = append-nil _ ∙ flat_map-append item_tokens items (i ∷ []) ∙ ap (λ ts. flat_map item_tokens items ++ ts) (append-nil _ ∙ spell ∙ ap (λ v. part_tokens part ++ v ∷ []) (sym same)) ∙ sym (append_assoc (flat_map item_tokens items) (part_tokens part) (t ∷ []));
-  }
+  items' = items ++ i ∷ [];
+  part' = start;
+  shown = ap (λ is. body_at is (stage_of start)) (map-append item_of items (i ∷ [])) ∙ shown;
+  spelled = append-nil _ ∙ flat_map-append item_tokens items (i ∷ []) ∙ ap (λ ts. flat_map item_tokens items ++ ts) (append-nil _ ∙ spell ∙ ap (λ v. part_tokens part ++ v ∷ []) (sym same)) ∙ sym (append_assoc (flat_map item_tokens items) (part_tokens part) (t ∷ []));
+}
 
 abbrev zero_tokens : List ℕ → List Token → List Token
 zero_tokens w ts = reserved (codes "zero") ∷ name w ∷ mark 58 ∷ ts
@@ -151,19 +151,19 @@ shown_zero items w s p = body_at (map item_of items ++ item.Zero w (sum_of (plus
 
 -- an atom of one token
 atom_read : (items : List ItemTree) (w : List ℕ) (o : List FrameTree) (s : Option Sum) (p : Option Product) (a : Atom) (t : Token) (b : Body)
-  → atom_tokens a ≡ t ∷ [] → shown_items items (its.Operator w (formula_of o (plus_terms s) (times_factors p ++ atom_expr a ∷ []))) ≡ b → FollowsBody items (operand w o s p) t b
+    → atom_tokens a ≡ t ∷ [] → shown_items items (its.Operator w (formula_of o (plus_terms s) (times_factors p ++ atom_expr a ∷ []))) ≡ b → FollowsBody items (operand w o s p) t b
 atom_read items w o s p a t b one shown = stays items (operand w o s p) (operator w o s (with_atom p a)) t t b refl
     (ap (zero_tokens w) (ap (λ ts. (outer_tokens o ++ plus_tokens s) ++ ts) (product_tokens-with_atom p a ∙ ap (λ ts. times_tokens p ++ ts) one) ∙ sym (append_assoc (outer_tokens o ++ plus_tokens s) (times_tokens p) (t ∷ []))))
     (ap (λ fs. shown_items items (its.Operator w (formula_of o (plus_terms s) fs))) (factors-with_atom p a) ∙ shown)
 
 -- a parenthesis opens
 opens : (items : List ItemTree) (w : List ℕ) (o : List FrameTree) (s : Option Sum) (p : Option Product) (t : Token) (b : Body)
-  → t ≡ mark 40 → shown_items items (its.Operand w (formula_of (record { sum = s; product = p } ∷ o) [] [])) ≡ b → FollowsBody items (operand w o s p) t b
+    → t ≡ mark 40 → shown_items items (its.Operand w (formula_of (record { sum = s; product = p } ∷ o) [] [])) ≡ b → FollowsBody items (operand w o s p) t b
 opens items w o s p t b same shown = stays items (operand w o s p) (operand w (record { sum = s; product = p } ∷ o) None None) t (mark 40) b same
     (ap (zero_tokens w) (append-nil _ ∙ append-nil _)) shown
 
 operand_read : (items : List ItemTree) (w : List ℕ) (o : List FrameTree) (s : Option Sum) (p : Option Product) (t : Token) (b : Body)
-  → option_map (body_at (map item_of items)) (operand_step w (formula_of o (plus_terms s) (times_factors p)) t) ≡ Some b → FollowsBody items (operand w o s p) t b
+    → option_map (body_at (map item_of items)) (operand_step w (formula_of o (plus_terms s) (times_factors p)) t) ≡ Some b → FollowsBody items (operand w o s p) t b
 operand_read items w o s p (name v) b e = atom_read items w o s p (column v) (name v) b refl (same_Some _ _ e)
 operand_read items w o s p (reserved v) b e = absurd (none-some b e)
 operand_read items w o s p (number n) b e = atom_read items w o s p (constant n) (number n) b refl (same_Some _ _ e)
@@ -175,54 +175,54 @@ operand_read items w o s p (wrong kind) b e = absurd (none-some b e)
 
 -- behind a product: `*`, `+`, `)` and `;`
 times_read : (items : List ItemTree) (w : List ℕ) (o : List FrameTree) (s : Option Sum) (p : Product) (t : Token) (b : Body)
-  → t ≡ mark 42 → shown_items items (its.Operand w (formula_of o (plus_terms s) (factors p))) ≡ b → FollowsBody items (operator w o s p) t b
+    → t ≡ mark 42 → shown_items items (its.Operand w (formula_of o (plus_terms s) (factors p))) ≡ b → FollowsBody items (operator w o s p) t b
 times_read items w o s p t b same shown = stays items (operator w o s p) (operand w o s (Some p)) t (mark 42) b same
     (ap (zero_tokens w) (sym (append_assoc (outer_tokens o ++ plus_tokens s) (product_tokens p) (mark 42 ∷ [])))) shown
 
 plus_read : (items : List ItemTree) (w : List ℕ) (o : List FrameTree) (s : Option Sum) (p : Product) (t : Token) (b : Body)
-  → t ≡ mark 43 → shown_items items (its.Operand w (formula_of o (plus_terms s ++ product_of (factors p) ∷ []) [])) ≡ b → FollowsBody items (operator w o s p) t b
+    → t ≡ mark 43 → shown_items items (its.Operand w (formula_of o (plus_terms s ++ product_of (factors p) ∷ []) [])) ≡ b → FollowsBody items (operator w o s p) t b
 plus_read items w o s p t b same shown = stays items (operator w o s p) (operand w o (Some (with_product s p)) None) t (mark 43) b same
     (ap (zero_tokens w) (simp (append-nil, append_assoc, sum_tokens-with_product) refl))
     (ap (λ ts. shown_items items (its.Operand w (formula_of o ts []))) (terms-with_product s p) ∙ shown)
 
 closes_to : (items : List ItemTree) (w : List ℕ) (f : FrameTree) (fs : List FrameTree) (s : Option Sum) (p : Product) (t : Token) (b : Body)
-  → t ≡ mark 41 → shown_items items (its.Operator w (formula_of fs (plus_terms f.sum) (times_factors f.product ++ sum_of (plus_terms s ++ product_of (factors p) ∷ []) ∷ []))) ≡ b → FollowsBody items (operator w (f ∷ fs) s p) t b
+    → t ≡ mark 41 → shown_items items (its.Operator w (formula_of fs (plus_terms f.sum) (times_factors f.product ++ sum_of (plus_terms s ++ product_of (factors p) ∷ []) ∷ []))) ≡ b → FollowsBody items (operator w (f ∷ fs) s p) t b
 closes_to items w f fs s p t b same shown = stays items (operator w (f ∷ fs) s p) (operator w fs f.sum (with_atom f.product (parens (with_product s p)))) t (mark 41) b same
     (ap (zero_tokens w) (simp (append_assoc, product_tokens-with_atom, sum_tokens-with_product) refl))
     (ap (λ gs. shown_items items (its.Operator w (formula_of fs (plus_terms f.sum) gs)))
-        (factors-with_atom f.product (parens (with_product s p)) ∙ ap (λ ts. times_factors f.product ++ sum_of ts ∷ []) (terms-with_product s p)) ∙ shown)
+    (factors-with_atom f.product (parens (with_product s p)) ∙ ap (λ ts. times_factors f.product ++ sum_of ts ∷ []) (terms-with_product s p)) ∙ shown)
 
 close_read : (items : List ItemTree) (w : List ℕ) (o : List FrameTree) (s : Option Sum) (p : Product) (t : Token) (b : Body)
-  → t ≡ mark 41 → option_map (λ g. body_at (map item_of items) (its.Operator w g)) (closed (formula_of o (plus_terms s) (factors p))) ≡ Some b → FollowsBody items (operator w o s p) t b
+    → t ≡ mark 41 → option_map (λ g. body_at (map item_of items) (its.Operator w g)) (closed (formula_of o (plus_terms s) (factors p))) ≡ Some b → FollowsBody items (operator w o s p) t b
 close_read items w [] s p t b same e = absurd (none-some b e)
 close_read items w (f ∷ fs) s p t b same e =
     let split : closed (formula_of (f ∷ fs) (plus_terms s) (factors p)) ≡ Some (back_in (innermost (formula_of (f ∷ fs) (plus_terms s) (factors p))) (outer_frames fs, frame_of f)) =
-        ap (option_map (back_in (innermost (formula_of (f ∷ fs) (plus_terms s) (factors p))))) (split_last-append (outer_frames fs) (frame_of f)) in
+    ap (option_map (back_in (innermost (formula_of (f ∷ fs) (plus_terms s) (factors p))))) (split_last-append (outer_frames fs) (frame_of f)) in
     closes_to items w f fs s p t b same (same_Some _ _ (sym (ap (option_map (λ g. body_at (map item_of items) (its.Operator w g))) split) ∙ e))
 
 no_outer : (f : FrameTree) (fs : List FrameTree) → (length (outer_frames (f ∷ fs)) == 0) ≡ true → ⊥
 no_outer f fs e = let h : length (outer_frames fs ++ frame_of f ∷ []) ≡ 0 = eqb-true _ 0 e in omega (arith, h, length-append (outer_frames fs) (frame_of f ∷ []))
 
 end_read : (items : List ItemTree) (w : List ℕ) (o : List FrameTree) (s : Option Sum) (p : Product) (t : Token) (b : Body)
-  → t ≡ mark 59 → (length (outer_frames o) == 0) ≡ true → shown_zero items w s p ≡ b → FollowsBody items (operator w o s p) t b
+    → t ≡ mark 59 → (length (outer_frames o) == 0) ≡ true → shown_zero items w s p ≡ b → FollowsBody items (operator w o s p) t b
 end_read items w [] s p t b same none shown = ends items (operator w [] s p) (zero_item w (with_product s p)) t (mark 59) b same
     (ap (zero_tokens w) (ap (λ ts. ts ++ mark 59 ∷ []) (sum_tokens-with_product s p)))
     (ap (λ ts. body_at (map item_of items ++ item.Zero w (sum_of ts) ∷ []) its.Start) (terms-with_product s p) ∙ shown)
 end_read items w (f ∷ fs) s p t b same none shown = absurd (no_outer f fs none)
 
 operator_read : (items : List ItemTree) (w : List ℕ) (o : List FrameTree) (s : Option Sum) (p : Product) (t : Token) (b : Body)
-  → operator_step (map item_of items) w (formula_of o (plus_terms s) (factors p)) t ≡ Some b → FollowsBody items (operator w o s p) t b
+    → operator_step (map item_of items) w (formula_of o (plus_terms s) (factors p)) t ≡ Some b → FollowsBody items (operator w o s p) t b
 operator_read items w o s p t b e =
     elim (chosen (is_mark_of 42 t) _ _ (Some b) e) [
-      inl h ↦ times_read items w o s p t b (mark_from 42 t h.0) (same_Some _ _ h.1)
-    | inr h ↦ elim (chosen (is_mark_of 43 t) _ _ (Some b) h.1) [
-        inl k ↦ plus_read items w o s p t b (mark_from 43 t k.0) (same_Some _ _ k.1)
-      | inr k ↦ elim (chosen (is_mark_of 41 t) _ _ (Some b) k.1) [
-          inl m ↦ close_read items w o s p t b (mark_from 41 t m.0) m.1
-        | inr m ↦
-            let r : ((is_mark_of 59 t && (length (outer_frames o) == 0)) ≡ true) × (shown_zero items w s p ≡ b) = cond_some _ _ b m.1 in
-            let q : (is_mark_of 59 t ≡ true) × ((length (outer_frames o) == 0) ≡ true) = both _ _ r.0 in
-            end_read items w o s p t b (mark_from 59 t q.0) q.1 r.1
+      | inl h ↦ times_read items w o s p t b (mark_from 42 t h.0) (same_Some _ _ h.1)
+      | inr h ↦ elim (chosen (is_mark_of 43 t) _ _ (Some b) h.1) [
+        | inl k ↦ plus_read items w o s p t b (mark_from 43 t k.0) (same_Some _ _ k.1)
+        | inr k ↦ elim (chosen (is_mark_of 41 t) _ _ (Some b) k.1) [
+          | inl m ↦ close_read items w o s p t b (mark_from 41 t m.0) m.1
+          | inr m ↦
+              let r : ((is_mark_of 59 t && (length (outer_frames o) == 0)) ≡ true) × (shown_zero items w s p ≡ b) = cond_some _ _ b m.1 in
+              let q : (is_mark_of 59 t ≡ true) × ((length (outer_frames o) == 0) ≡ true) = both _ _ r.0 in
+              end_read items w o s p t b (mark_from 59 t q.0) q.1 r.1
         ]
       ]
     ]
@@ -230,26 +230,26 @@ operator_read items w o s p t b e =
 start_read : (items : List ItemTree) (t : Token) (b : Body) → body_step (map item_of items) its.Start t ≡ Some b → FollowsBody items start t b
 start_read items t b e =
     elim (chosen (is_word (codes "column") t) _ _ (Some b) e) [
-      inl h ↦ stays items start column_name t (reserved (codes "column")) b (word_from (codes "column") t h.0) refl (same_Some _ _ h.1)
-    | inr h ↦
-        let k : (is_word (codes "zero") t ≡ true) × (shown_items items its.ZeroName ≡ b) = cond_some _ _ b h.1 in
-        stays items start zero_name t (reserved (codes "zero")) b (word_from (codes "zero") t k.0) refl k.1
+      | inl h ↦ stays items start column_name t (reserved (codes "column")) b (word_from (codes "column") t h.0) refl (same_Some _ _ h.1)
+      | inr h ↦
+          let k : (is_word (codes "zero") t ≡ true) × (shown_items items its.ZeroName ≡ b) = cond_some _ _ b h.1 in
+          stays items start zero_name t (reserved (codes "zero")) b (word_from (codes "zero") t k.0) refl k.1
     ]
 
 name_read : (items : List ItemTree) (part : Part) (f : List ℕ → ItemStage) (next : List ℕ → Part) (t : Token) (b : Body)
-  → ((w : List ℕ) → stage_of (next w) ≡ f w) → ((w : List ℕ) → part_tokens (next w) ≡ part_tokens part ++ name w ∷ [])
-  → option_map (λ w. body_at (map item_of items) (f w)) (name_of t) ≡ Some b → FollowsBody items part t b
+    → ((w : List ℕ) → stage_of (next w) ≡ f w) → ((w : List ℕ) → part_tokens (next w) ≡ part_tokens part ++ name w ∷ [])
+    → option_map (λ w. body_at (map item_of items) (f w)) (name_of t) ≡ Some b → FollowsBody items part t b
 name_read items part f next t b is spell e =
     let n = mapped (λ w. body_at (map item_of items) (f w)) (name_of t) b e in
     stays items part (next n.value) t (name n.value) b (name_from t n.value n.from) (spell n.value) (ap (body_at (map item_of items)) (is n.value) ∙ n.is)
 
 mark_read : (items : List ItemTree) (part next : Part) (c : ℕ) (t : Token) (b : Body)
-  → part_tokens next ≡ part_tokens part ++ mark c ∷ []
-  → cond (is_mark_of c t) (Some (body_at (map item_of items) (stage_of next))) None ≡ Some b → FollowsBody items part t b
+    → part_tokens next ≡ part_tokens part ++ mark c ∷ []
+    → cond (is_mark_of c t) (Some (body_at (map item_of items) (stage_of next))) None ≡ Some b → FollowsBody items part t b
 mark_read items part next c t b spell e = let m = marked c _ b t e in stays items part next t (mark c) b m.0 spell m.1
 
 type_read : (items : List ItemTree) (w : List ℕ) (t : Token) (b : Body)
-  → option_map (λ level. body_at (map item_of items) (its.ColumnEnd w level)) (option_and_then level_of (name_of t)) ≡ Some b → FollowsBody items (column_type w) t b
+    → option_map (λ level. body_at (map item_of items) (its.ColumnEnd w level)) (option_and_then level_of (name_of t)) ≡ Some b → FollowsBody items (column_type w) t b
 type_read items w t b e =
     let m = mapped (λ level. body_at (map item_of items) (its.ColumnEnd w level)) _ b e in
     let n = named level_of t m.value m.from in
@@ -257,7 +257,7 @@ type_read items w t b e =
     stays items (column_type w) (column_end w m.value l.fits) t (name (type_word m.value)) b (n.token ∙ ap name l.word) refl m.is
 
 column_read : (items : List ItemTree) (w : List ℕ) (level : ℕ) (h : level ≤ 7) (t : Token) (b : Body)
-  → cond (is_mark_of 59 t) (Some (body_at (map item_of items ++ item.Column w level 0 ∷ []) its.Start)) None ≡ Some b → FollowsBody items (column_end w level h) t b
+    → cond (is_mark_of 59 t) (Some (body_at (map item_of items ++ item.Column w level 0 ∷ []) its.Start)) None ≡ Some b → FollowsBody items (column_end w level h) t b
 column_read items w level h t b e = let m = marked 59 _ b t e in ends items (column_end w level h) (column_item w level h) t (mark 59) b m.0 refl m.1
 
 pub follows_body : (items : List ItemTree) (part : Part) (t : Token) (b : Body) → body_step (map item_of items) (stage_of part) t ≡ Some b → FollowsBody items part t b
@@ -282,34 +282,34 @@ pub record Follows (tables : FileTree) (part : TablePart) (t : Token) (v : State
 
 moves : (tables : FileTree) (part next : TablePart) (t u : Token) (v : State) → t ≡ u → table_part_tokens next ≡ table_part_tokens part ++ u ∷ [] → state_at (map table_of tables) (table_stage next) ≡ v → Follows tables part t v
 moves tables part next t u v same spell shown = record {
-    tables' = tables;
-    part' = next;
-    shown = shown;
-    spells = ap (λ ts. file_tokens tables ++ ts) (spell ∙ ap (λ x. table_part_tokens part ++ x ∷ []) (sym same)) ∙ sym (append_assoc (file_tokens tables) (table_part_tokens part) (t ∷ []));
-  }
+  tables' = tables;
+  part' = next;
+  shown = shown;
+  spells = ap (λ ts. file_tokens tables ++ ts) (spell ∙ ap (λ x. table_part_tokens part ++ x ∷ []) (sym same)) ∙ sym (append_assoc (file_tokens tables) (table_part_tokens part) (t ∷ []));
+}
 
 abbrev table_tree : List ℕ → List ItemTree → TableTree
 table_tree w items = record { name = w; items = items }
 
 table_ends : (tables : FileTree) (w : List ℕ) (items : List ItemTree) (t : Token) (v : State) → t ≡ mark 125 → state_at (map table_of tables ++ decl.Table w (map item_of items) ∷ []) (table_stage file) ≡ v → Follows tables (table w items start) t v
 table_ends tables w items t v same shown = record {
-    tables' = tables ++ table_tree w items ∷ [];
-    part' = file;
-    shown = ap (λ ds. state_at ds (table_stage file)) (map-append table_of tables (table_tree w items ∷ [])) ∙ shown;
-    spells = append-nil _ ∙ flat_map-append table_tokens tables (table_tree w items ∷ [])
-        ∙ ap (λ ts. file_tokens tables ++ ts) (append-nil _ ∙ ap (λ ts. reserved (codes "table") ∷ name w ∷ mark 123 ∷ ts) (ap (λ ts. ts ++ mark 125 ∷ []) (sym (append-nil (flat_map item_tokens items))))
-            ∙ ap (λ x. table_part_tokens (table w items start) ++ x ∷ []) (sym same))
-        ∙ sym (append_assoc (file_tokens tables) (table_part_tokens (table w items start)) (t ∷ []));
-  }
+  tables' = tables ++ table_tree w items ∷ [];
+  part' = file;
+  shown = ap (λ ds. state_at ds (table_stage file)) (map-append table_of tables (table_tree w items ∷ [])) ∙ shown;
+  spells = append-nil _ ∙ flat_map-append table_tokens tables (table_tree w items ∷ [])
+      ∙ ap (λ ts. file_tokens tables ++ ts) (append-nil _ ∙ ap (λ ts. reserved (codes "table") ∷ name w ∷ mark 123 ∷ ts) (ap (λ ts. ts ++ mark 125 ∷ []) (sym (append-nil (flat_map item_tokens items))))
+      ∙ ap (λ x. table_part_tokens (table w items start) ++ x ∷ []) (sym same))
+      ∙ sym (append_assoc (file_tokens tables) (table_part_tokens (table w items start)) (t ∷ []));
+}
 
 inside : (tables : FileTree) (w : List ℕ) (items : List ItemTree) (part : Part) (t : Token) (v : State)
-  → option_map (λ b. state_at (map table_of tables) (stage.Table w b)) (body_step (map item_of items) (stage_of part) t) ≡ Some v → Follows tables (table w items part) t v
+    → option_map (λ b. state_at (map table_of tables) (stage.Table w b)) (body_step (map item_of items) (stage_of part) t) ≡ Some v → Follows tables (table w items part) t v
 inside tables w items part t v e =
     let m = mapped (λ b. state_at (map table_of tables) (stage.Table w b)) _ v e in
     let r = follows_body items part t m.value m.from in
     moves tables (table w items part) (table w r.items' r.part') t t v refl
-        (ap (λ ts. reserved (codes "table") ∷ name w ∷ mark 123 ∷ ts) r.spelled)
-        (ap (λ b. state_at (map table_of tables) (stage.Table w b)) r.shown ∙ m.is)
+    (ap (λ ts. reserved (codes "table") ∷ name w ∷ mark 123 ∷ ts) r.spelled)
+    (ap (λ b. state_at (map table_of tables) (stage.Table w b)) r.shown ∙ m.is)
 
 start_only : (part : Part) → is_start (stage_of part) ≡ true → part ≡ start
 start_only start e = refl
@@ -323,13 +323,13 @@ start_only (operand w o s p) e = cc
 start_only (operator w o s p) e = cc
 
 table_read : (tables : FileTree) (w : List ℕ) (items : List ItemTree) (part : Part) (t : Token) (v : State)
-  → stage_step (map table_of tables) (table_stage (table w items part)) t ≡ Some v → Follows tables (table w items part) t v
+    → stage_step (map table_of tables) (table_stage (table w items part)) t ≡ Some v → Follows tables (table w items part) t v
 table_read tables w items part t v e =
     elim (chosen (is_mark_of 125 t && is_start (stage_of part)) _ _ (Some v) e) [
-      inl h ↦
-        let q : (is_mark_of 125 t ≡ true) × (is_start (stage_of part) ≡ true) = both _ _ h.0 in
-        subst (λ (p : Part). Follows tables (table w items p) t v) (sym (start_only part q.1)) (table_ends tables w items t v (mark_from 125 t q.0) (same_Some _ _ h.1))
-    | inr h ↦ inside tables w items part t v h.1
+      | inl h ↦
+          let q : (is_mark_of 125 t ≡ true) × (is_start (stage_of part) ≡ true) = both _ _ h.0 in
+          subst (λ (p : Part). Follows tables (table w items p) t v) (sym (start_only part q.1)) (table_ends tables w items t v (mark_from 125 t q.0) (same_Some _ _ h.1))
+      | inr h ↦ inside tables w items part t v h.1
     ]
 
 pub follows : (tables : FileTree) (part : TablePart) (t : Token) (v : State) → step (state_of tables part) t ≡ Some v → Follows tables part t v

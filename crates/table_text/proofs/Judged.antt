@@ -1,5 +1,5 @@
 -- What the machine refuses is what the grammar and its limits refuse.
-use Rattle.std.proofs.Common.{◌≡◌, ℕ, zero, suc, ◌+◌, ◌-◌, ◌≤◌, ◌<◌, ◌⊎◌, inl, inr, Bool, true, false, cond, ◌&&◌, List, [], ◌∷◌, ◌++◌, length, take, Option, Some, None, Result, Ok, Err, refl, sym, ◌∙◌, ap, subst, append_assoc, arith}
+use Rattle.std.proofs.Common.{◌≡◌, ℕ, ◌+◌, ◌-◌, ◌≤◌, ◌<◌, Bool, true, false, cond, ◌&&◌, List, [], ◌∷◌, ◌++◌, Option, Some, None, Result, Ok, Err, refl, sym, ◌∙◌, ap, subst, arith}
 use Rattle.std.proofs.lemmas.List.{append-nil}
 use Rattle.std.proofs.lemmas.List.Sums.{sum_by-append}
 use Rattle.std.proofs.lemmas.Option.{none-some, same_Some}
@@ -7,9 +7,9 @@ use Rattle.std.proofs.lemmas.Bool.{leb-true, leb-false}
 use Rattle.std.specs.Prelude.{nat_le, map, count_by, option_and_then, MatchOption}
 use Rattle.table_text.specs.Lexing.{Token}
 use Rattle.table_text.specs.Grammar.{FileTree, file_tokens, table_of, IsFile, Begins}
-use Rattle.table_text.specs.Faults.{own_fault, is_mark_of, begins_declaration, open_after, begun_in, max_open, max_declarations, IsTaken, GrammarRefuses, IsRefused}
+use Rattle.table_text.specs.Faults.{own_fault, is_mark_of, begins_declaration, open_after, max_open, max_declarations, IsTaken, GrammarRefuses, IsRefused}
 use Rattle.table_text.specs.Machine.{step, run, start, state_at, is_file_stage}
-use Rattle.table_text.specs.Reading.{one_if, progress_after, limit_fault, limited, allowed, sound, taken, fault_at, begin}
+use Rattle.table_text.specs.Reading.{one_if, progress_after, limit_fault, limited, allowed, sound, taken, begin}
 use Rattle.table_text.specs.declared.decl.Decl.{Decl}
 use Rattle.table_text.specs.declared.state.Stage.TheVariants as stage
 use Rattle.table_text.specs.declared.state.State.{State}
@@ -20,7 +20,7 @@ use Rattle.table_text.specs.declared.fault.TextKind.TheVariants.{Unexpected, Too
 use Rattle.table_text.proofs.Trees.{TablePart, file, table_name, table_brace, table, table_stage, spelled, state_of}
 use Rattle.table_text.proofs.Follows.{follows, both}
 use Rattle.table_text.proofs.Completes.{complete}
-use Rattle.table_text.proofs.Accepts.{accepts, prefix_read, run-append, Reaches}
+use Rattle.table_text.proofs.Accepts.{accepts, prefix_read, run-append}
 
 -- ---- the machine against the grammar
 
@@ -103,11 +103,11 @@ count-one test n before t h =
 
 is_progress_after : (before : List Token) (p : Progress) (t : Token) (v : State) → IsProgress before p → step p.state t ≡ Some v → IsProgress (before ++ t ∷ []) (progress_after p t v)
 is_progress_after before p t v h e = record {
-    read = has_read_one before p.state v t h.read e;
-    opened = count-one (is_mark_of 40) p.opened before t h.opened;
-    closed = count-one (is_mark_of 41) p.closed before t h.closed;
-    begun = count-one begins_declaration p.begun before t h.begun;
-  }
+  read = has_read_one before p.state v t h.read e;
+  opened = count-one (is_mark_of 40) p.opened before t h.opened;
+  closed = count-one (is_mark_of 41) p.closed before t h.closed;
+  begun = count-one begins_declaration p.begun before t h.begun;
+}
 
 open_is : (before : List Token) (p : Progress) → IsProgress before p → p.opened - p.closed ≡ open_after before
 open_is before p h = ap (λ n. n - p.closed) h.opened ∙ ap (λ n. count_by (is_mark_of 40) before - n) h.closed
@@ -136,19 +136,22 @@ judged_limits before p place t v h own e =
     let deep = is_mark_of 40 t && nat_le max_open (p.opened - p.closed) in
     let many = begins_declaration t && nat_le max_declarations p.begun in
     elim deep as (λ b. deep ≡ b → Verdict before place t (limited p place t v (cond b (Some TooDeep) (cond many (Some TooMany) None)))) [
-      true ↦ λ d.
-        let q : (is_mark_of 40 t ≡ true) × (nat_le max_open (p.opened - p.closed) ≡ true) = both _ _ d in
-        (refl, refused_by_grammar before t TooDeep own (may, q.0, subst (λ n. max_open ≤ n) depth (leb-true max_open (p.opened - p.closed) q.1)))
-    | false ↦ λ d. elim many as (λ b. many ≡ b → Verdict before place t (limited p place t v (cond b (Some TooMany) None))) [
-        true ↦ λ m.
-          let q : (begins_declaration t ≡ true) × (nat_le max_declarations p.begun ≡ true) = both _ _ m in
-          (refl, refused_by_grammar before t TooMany own (may, q.0, subst (λ n. max_declarations ≤ n) h.begun (leb-true max_declarations p.begun q.1)))
-      | false ↦ λ m. (record {
-          sound = own;
-          allowed = may;
-          shallow = λ x. subst (λ n. n < max_open) depth (not_both (is_mark_of 40 t) max_open (p.opened - p.closed) d x);
-          few = λ x. subst (λ n. n < max_declarations) h.begun (not_both (begins_declaration t) max_declarations p.begun m x);
-        }, next)
+      | true ↦ λ d.
+          let q : (is_mark_of 40 t ≡ true) × (nat_le max_open (p.opened - p.closed) ≡ true) = both _ _ d in
+          (refl, refused_by_grammar before t TooDeep own (may, q.0, subst (λ n. max_open ≤ n) depth (leb-true max_open (p.opened - p.closed) q.1)))
+      | false ↦ λ d. elim many as (λ b. many ≡ b → Verdict before place t (limited p place t v (cond b (Some TooMany) None))) [
+        | true ↦ λ m.
+            let q : (begins_declaration t ≡ true) × (nat_le max_declarations p.begun ≡ true) = both _ _ m in
+            (refl, refused_by_grammar before t TooMany own (may, q.0, subst (λ n. max_declarations ≤ n) h.begun (leb-true max_declarations p.begun q.1)))
+        | false ↦ λ m. (
+          record {
+            sound = own;
+            allowed = may;
+            shallow = λ x. subst (λ n. n < max_open) depth (not_both (is_mark_of 40 t) max_open (p.opened - p.closed) d x);
+            few = λ x. subst (λ n. n < max_declarations) h.begun (not_both (begins_declaration t) max_declarations p.begun m x);
+          },
+          next,
+        )
       ] refl
     ] refl
 

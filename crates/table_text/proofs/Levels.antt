@@ -1,5 +1,5 @@
 -- The declarations of a file have levels that fit.
-use Rattle.std.proofs.Common.{◌≡◌, ℕ, ◌≤◌, List, [], ◌∷◌, subst, lit≤}
+use Rattle.std.proofs.Common.{List, [], ◌∷◌, subst, lit≤}
 use Rattle.std.specs.Prelude.{map}
 use Rattle.table_text.specs.Lexing.{Token}
 use Rattle.table_text.specs.Grammar.{ItemTree, column_item, zero_item, FileTree, item_of, table_of, IsFile}

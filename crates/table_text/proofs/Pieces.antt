@@ -1,5 +1,5 @@
 -- How many bytes a piece takes.
-use Rattle.std.proofs.Common.{◌≡◌, ℕ, suc, ◌+◌, ◌-◌, ◌≤◌, ◌<◌, Bool, true, false, cond, ◌&&◌, List, [], ◌∷◌, length, take, drop, Option, Some, None, refl, sym, ◌∙◌, ap, subst, arith, length-drop}
+use Rattle.std.proofs.Common.{◌≡◌, ℕ, ◌+◌, ◌-◌, ◌≤◌, ◌<◌, Bool, true, false, cond, ◌&&◌, List, [], ◌∷◌, length, drop, Option, Some, None, refl, ap, arith, length-drop}
 use Rattle.std.proofs.lemmas.List.Sums.{prefix_len-le-length}
 use Rattle.std.proofs.lemmas.List.Folds.{length-prefix_len}
 use Rattle.std.specs.Prelude.{◌==◌, ◌||◌, not, nat_eq, nat_lt, codes}
@@ -45,8 +45,8 @@ pub number_takes : (b : ℕ) (bytes : List ℕ) → is_digit b ≡ true → Take
 number_takes b bytes h =
     let test = starts_with nat_eq (b ∷ bytes) (codes "0x") && nat_lt 0 (length (hex_digits (b ∷ bytes))) in
     elim test as (λ v. test ≡ v → Takes (b ∷ bytes) (cond v (hex_piece (b ∷ bytes)) (decimal_at (b ∷ bytes)))) [
-      true ↦ λ e. hex_takes (b ∷ bytes) _ e
-    | false ↦ λ e. by_class is_digit b bytes _ h
+      | true ↦ λ e. hex_takes (b ∷ bytes) _ e
+      | false ↦ λ e. by_class is_digit b bytes _ h
     ] refl
 
 abbrev other_piece : ℕ → Piece
@@ -64,14 +64,14 @@ word_byte b e = ap (λ v. v || is_digit b || b == 95) e
 pub takes : (b : ℕ) (bytes : List ℕ) → Takes (b ∷ bytes) (piece_at (b ∷ bytes))
 takes b bytes =
     elim (is_blank b) as (λ v. Takes (b ∷ bytes) (cond v (gap 1) (cond (b == 35) (comment_at (b ∷ bytes)) (cond (is_letter b) (word_at (b ∷ bytes)) (cond (is_digit b) (number_at (b ∷ bytes)) (other_piece b)))))) [
-      true ↦ one b bytes None
-    | false ↦ elim (b == 35) as (λ v. (b == 35) ≡ v → Takes (b ∷ bytes) (cond v (comment_at (b ∷ bytes)) (cond (is_letter b) (word_at (b ∷ bytes)) (cond (is_digit b) (number_at (b ∷ bytes)) (other_piece b))))) [
-        true ↦ λ e. by_class (λ c. not (c == 10)) b bytes None (not_break b e)
-      | false ↦ λ _. elim (is_letter b) as (λ v. is_letter b ≡ v → Takes (b ∷ bytes) (cond v (word_at (b ∷ bytes)) (cond (is_digit b) (number_at (b ∷ bytes)) (other_piece b)))) [
-          true ↦ λ e. by_class is_word_byte b bytes _ (word_byte b e)
-        | false ↦ λ _. elim (is_digit b) as (λ v. is_digit b ≡ v → Takes (b ∷ bytes) (cond v (number_at (b ∷ bytes)) (other_piece b))) [
-            true ↦ λ e. number_takes b bytes e
-          | false ↦ λ _. one b bytes _
+      | true ↦ one b bytes None
+      | false ↦ elim (b == 35) as (λ v. (b == 35) ≡ v → Takes (b ∷ bytes) (cond v (comment_at (b ∷ bytes)) (cond (is_letter b) (word_at (b ∷ bytes)) (cond (is_digit b) (number_at (b ∷ bytes)) (other_piece b))))) [
+        | true ↦ λ e. by_class (λ c. not (c == 10)) b bytes None (not_break b e)
+        | false ↦ λ _. elim (is_letter b) as (λ v. is_letter b ≡ v → Takes (b ∷ bytes) (cond v (word_at (b ∷ bytes)) (cond (is_digit b) (number_at (b ∷ bytes)) (other_piece b)))) [
+          | true ↦ λ e. by_class is_word_byte b bytes _ (word_byte b e)
+          | false ↦ λ _. elim (is_digit b) as (λ v. is_digit b ≡ v → Takes (b ∷ bytes) (cond v (number_at (b ∷ bytes)) (other_piece b))) [
+            | true ↦ λ e. number_takes b bytes e
+            | false ↦ λ _. one b bytes _
           ] refl
         ] refl
       ] refl

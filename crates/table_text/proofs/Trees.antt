@@ -1,15 +1,14 @@
 -- What the machine has read, as trees of the grammar, some of them unfinished.
-use Rattle.std.proofs.Common.{◌≡◌, ℕ, ◌≤◌, List, [], ◌∷◌, ◌++◌, Option, Some, None, refl, sym, ◌∙◌, ap, append_assoc}
+use Rattle.std.proofs.Common.{◌≡◌, ℕ, ◌≤◌, List, [], ◌∷◌, ◌++◌, Option, Some, None, refl, sym, append_assoc}
 use Rattle.std.specs.Prelude.{map, codes}
 use Rattle.std.specs.List.{flat_map}
-use Rattle.table_text.specs.Lexing.{Token, name, reserved, number, mark}
-use Rattle.table_text.specs.Grammar.{Sum, first_term, plus, Product, first_factor, times, Atom, constant, column, parens, ItemTree, column_item, zero_item, TableTree, FileTree, sum_tokens, product_tokens, atom_tokens, type_word, item_tokens, file_tokens, terms, factors, atom_expr, sum_of, product_of, item_of, table_of}
+use Rattle.table_text.specs.Lexing.{Token, name, reserved, mark}
+use Rattle.table_text.specs.Grammar.{Sum, first_term, plus, Product, first_factor, times, Atom, ItemTree, FileTree, sum_tokens, product_tokens, atom_tokens, type_word, item_tokens, file_tokens, terms, factors, atom_expr, product_of, item_of, table_of}
 use Rattle.table_text.specs.Machine.{body_at, state_at}
 use Rattle.table_text.specs.declared.expr.Expr.{Expr}
 use Rattle.table_text.specs.declared.formula.Frame.{Frame}
 use Rattle.table_text.specs.declared.body.ItemStage.{ItemStage}
 use Rattle.table_text.specs.declared.body.ItemStage.TheVariants as its
-use Rattle.table_text.specs.declared.body.Body.{Body}
 use Rattle.table_text.specs.declared.state.Stage.{Stage}
 use Rattle.table_text.specs.declared.state.Stage.TheVariants as stage
 use Rattle.table_text.specs.declared.state.State.{State}

@@ -1,13 +1,13 @@
 -- The reading answers the declarations of a text of them, and the first fault of each other text.
-use Rattle.std.proofs.Common.{◌≡◌, ℕ, zero, suc, ◌+◌, ◌-◌, ◌≤◌, ◌<◌, ◌⊎◌, inl, inr, Bool, true, false, cond, List, [], ◌∷◌, ◌++◌, length, take, Option, Some, None, Result, Ok, Err, refl, sym, ◌∙◌, ap, subst, append_assoc, length-append, arith}
+use Rattle.std.proofs.Common.{◌≡◌, ℕ, suc, ◌+◌, ◌≤◌, ◌<◌, inl, inr, Bool, true, false, cond, List, [], ◌∷◌, ◌++◌, length, take, Option, Some, None, Result, Ok, Err, refl, sym, ◌∙◌, ap, subst, append_assoc, length-append, arith}
 use Rattle.std.proofs.lemmas.List.{append-nil, map-append}
-use Rattle.std.proofs.lemmas.Option.{none-some, same_Some, slice_get-map, slice_get_within, slice_get_past}
+use Rattle.std.proofs.lemmas.Option.{slice_get-map, slice_get_within, slice_get_past}
 use Rattle.std.proofs.lemmas.Bool.{cases_order}
 use Rattle.std.proofs.Math.Seq.{take-append_seam}
 use Rattle.std.specs.Prelude.{map, not, position, slice_get, option_map, MatchOption}
 use Rattle.table_text.specs.Bytes.{is_text}
 use Rattle.table_text.specs.Lexing.{Token, name, reserved, number, mark, wrong, Spot, spots}
-use Rattle.table_text.specs.Grammar.{IsFile, Begins}
+use Rattle.table_text.specs.Grammar.{IsFile}
 use Rattle.table_text.specs.Faults.{own_fault, is_mark_of, begins_declaration, open_after, begun_in, max_open, max_declarations, IsTaken, GrammarRefuses, IsRefused, AreTaken, IsTokenFault, IsFirstFault, IsTablesText}
 use Rattle.table_text.specs.Machine.{is_file_stage}
 use Rattle.table_text.specs.Reading.{taken as taken_on, then_read, fault_at, finished, begin, reading_from, reading_at, reading}
@@ -42,8 +42,8 @@ MayStand ts k = MatchOption (slice_get ts k) ⊥ (IsTaken (take k ts))
 one_more : (ts : List Token) (n : ℕ) → AreTaken ts n → MayStand ts n → AreTaken ts (n + 1)
 one_more ts n before here k h =
     elim (cases_order k n) [
-      inl same ↦ subst (MayStand ts) (sym same) here
-    | inr other ↦ elim other [ inl below ↦ before k below | inr above ↦ absurd (omega arith) ]
+      | inl same ↦ subst (MayStand ts) (sym same) here
+      | inr other ↦ elim other [ inl below ↦ before k below | inr above ↦ absurd (omega arith) ]
     ]
 
 taken_not_refused : (before : List Token) (t : Token) (kind : TextKind) → IsTaken before t → IsRefused before t kind → ⊥
@@ -122,18 +122,18 @@ same_fault : (f g : TextFault) → f.place ≡ g.place → f.kind ≡ g.kind →
 same_fault f g p k = ap (λ n. fault_at n f.kind) p ∙ ap (fault_at g.place) k
 
 same_at : (all : List Spot) (end n : ℕ) (f g : TextFault) (o : Option Spot)
-  → MatchOption o ((n ≡ length all) × ((decls : List Decl) → ¬ IsFile (tokens_of all) decls) × (f.place ≡ end) × (f.kind ≡ Unexpected)) (λ s. (f.place ≡ s.place) × IsRefused (take n (tokens_of all)) s.token f.kind)
-  → MatchOption o ((n ≡ length all) × ((decls : List Decl) → ¬ IsFile (tokens_of all) decls) × (g.place ≡ end) × (g.kind ≡ Unexpected)) (λ s. (g.place ≡ s.place) × IsRefused (take n (tokens_of all)) s.token g.kind) → f ≡ g
+    → MatchOption o ((n ≡ length all) × ((decls : List Decl) → ¬ IsFile (tokens_of all) decls) × (f.place ≡ end) × (f.kind ≡ Unexpected)) (λ s. (f.place ≡ s.place) × IsRefused (take n (tokens_of all)) s.token f.kind)
+    → MatchOption o ((n ≡ length all) × ((decls : List Decl) → ¬ IsFile (tokens_of all) decls) × (g.place ≡ end) × (g.kind ≡ Unexpected)) (λ s. (g.place ≡ s.place) × IsRefused (take n (tokens_of all)) s.token g.kind) → f ≡ g
 same_at all end n f g None a b = same_fault f g (a.2 ∙ sym b.2) (a.3 ∙ sym b.3)
 same_at all end n f g (Some s) a b = same_fault f g (a.0 ∙ sym b.0) (one_refusal (take n (tokens_of all)) s.token f.kind g.kind a.1 b.1)
 
 one_token_fault : (all : List Spot) (end : ℕ) (f g : TextFault) → IsTokenFault all end f → IsTokenFault all end g → f ≡ g
 one_token_fault all end f g a b =
     elim (cases_order a.at b.at) [
-      inl same ↦ same_at all end b.at f g (slice_get all b.at) (subst (FaultAt all end f) same a.is) b.is
-    | inr other ↦ elim other [
-        inl below ↦ absurd (clash all end f a.at (b.taken a.at below) a.is)
-      | inr above ↦ absurd (clash all end g b.at (a.taken b.at above) b.is)
+      | inl same ↦ same_at all end b.at f g (slice_get all b.at) (subst (FaultAt all end f) same a.is) b.is
+      | inr other ↦ elim other [
+        | inl below ↦ absurd (clash all end f a.at (b.taken a.at below) a.is)
+        | inr above ↦ absurd (clash all end g b.at (a.taken b.at above) b.is)
       ]
     ]
 
@@ -163,11 +163,11 @@ reading_from-nil p end = refl
 answer_end : (all : List Spot) (end : ℕ) (p : Progress) (b : Bool) → is_file_stage p.state.stage ≡ b → AreTaken (tokens_of all) (length all) → IsProgress (tokens_of all) p → Answer all end (cond b (Ok p.state.decls) (Err (fault_at end Unexpected)))
 answer_end all end p true e taken h = (taken, ends (tokens_of all) p.state h.read e)
 answer_end all end p false e taken h = record {
-    at = length all;
-    taken = taken;
-    is = subst (λ o. MatchOption o ((length all ≡ length all) × ((decls : List Decl) → ¬ IsFile (tokens_of all) decls) × (end ≡ end) × (Unexpected ≡ Unexpected)) (λ (s : Spot). (end ≡ s.place) × IsRefused (take (length all) (tokens_of all)) s.token Unexpected))
-        (sym (slice_get_past all (length all) (omega arith))) (refl, (λ ds. ends_not (tokens_of all) p.state ds h.read e), refl, refl);
-  }
+  at = length all;
+  taken = taken;
+  is = subst (λ o. MatchOption o ((length all ≡ length all) × ((decls : List Decl) → ¬ IsFile (tokens_of all) decls) × (end ≡ end) × (Unexpected ≡ Unexpected)) (λ (s : Spot). (end ≡ s.place) × IsRefused (take (length all) (tokens_of all)) s.token Unexpected))
+      (sym (slice_get_past all (length all) (omega arith))) (refl, (λ ds. ends_not (tokens_of all) p.state ds h.read e), refl, refl);
+}
 
 -- the place of a token in a list
 pub record IsNext (all done rest : List Spot) (s : Spot) : Type 0 where
@@ -184,33 +184,33 @@ next_before all done rest s h =
 may_stand : (all done rest : List Spot) (s : Spot) → done ++ s ∷ rest ≡ all → IsTaken (tokens_of done) s.token → MayStand (tokens_of all) (length done)
 may_stand all done rest s h a =
     subst (λ o. MatchOption o ⊥ (IsTaken (take (length done) (tokens_of all)))) (sym (slice_get-map token_of all (length done) ∙ ap (option_map token_of) (next_spot all done rest s h)))
-        (subst (λ ts. IsTaken ts s.token) (sym (next_before all done rest s h)) a)
+    (subst (λ ts. IsTaken ts s.token) (sym (next_before all done rest s h)) a)
 
 fault_here : (all done rest : List Spot) (s : Spot) (end : ℕ) (f : TextFault) → done ++ s ∷ rest ≡ all → AreTaken (tokens_of all) (length done) → (f.place ≡ s.place) × IsRefused (tokens_of done) s.token f.kind → IsTokenFault all end f
 fault_here all done rest s end f h taken r = record {
-    at = length done;
-    taken = taken;
-    is = subst (λ o. MatchOption o ((length done ≡ length all) × ((decls : List Decl) → ¬ IsFile (tokens_of all) decls) × (f.place ≡ end) × (f.kind ≡ Unexpected)) (λ (s : Spot). (f.place ≡ s.place) × IsRefused (take (length done) (tokens_of all)) s.token f.kind))
-        (sym (next_spot all done rest s h)) (r.0, subst (λ ts. IsRefused ts s.token f.kind) (sym (next_before all done rest s h)) r.1);
-  }
+  at = length done;
+  taken = taken;
+  is = subst (λ o. MatchOption o ((length done ≡ length all) × ((decls : List Decl) → ¬ IsFile (tokens_of all) decls) × (f.place ≡ end) × (f.kind ≡ Unexpected)) (λ (s : Spot). (f.place ≡ s.place) × IsRefused (take (length done) (tokens_of all)) s.token f.kind))
+      (sym (next_spot all done rest s h)) (r.0, subst (λ ts. IsRefused ts s.token f.kind) (sym (next_before all done rest s h)) r.1);
+}
 
 answer_step : (all done rest : List Spot) (s : Spot) (end : ℕ) → done ++ s ∷ rest ≡ all → AreTaken (tokens_of all) (length done)
-  → ((q : Progress) → (done ++ s ∷ []) ++ rest ≡ all → AreTaken (tokens_of all) (length (done ++ s ∷ [])) → IsProgress (tokens_of (done ++ s ∷ [])) q → Answer all end (reading_from q rest end))
-  → (r : Result Progress TextFault) → Verdict (tokens_of done) s.place s.token r → Answer all end (then_read r (λ q. reading_from q rest end))
+    → ((q : Progress) → (done ++ s ∷ []) ++ rest ≡ all → AreTaken (tokens_of all) (length (done ++ s ∷ [])) → IsProgress (tokens_of (done ++ s ∷ [])) q → Answer all end (reading_from q rest end))
+    → (r : Result Progress TextFault) → Verdict (tokens_of done) s.place s.token r → Answer all end (then_read r (λ q. reading_from q rest end))
 answer_step all done rest s end h taken more (Ok q) v =
     let longer : length done + 1 ≡ length (done ++ s ∷ []) = sym (length-append done (s ∷ [])) in
     more q (append_assoc done (s ∷ []) rest ∙ h) (subst (AreTaken (tokens_of all)) longer (one_more (tokens_of all) (length done) taken (may_stand all done rest s h v.0)))
-        (subst (λ ts. IsProgress ts q) (sym (map-append token_of done (s ∷ []))) v.1)
+    (subst (λ ts. IsProgress ts q) (sym (map-append token_of done (s ∷ []))) v.1)
 answer_step all done rest s end h taken more (Err f) v = fault_here all done rest s end f h taken v
 
 answers : (all : List Spot) (end : ℕ) (done rest : List Spot) (p : Progress) → done ++ rest ≡ all → AreTaken (tokens_of all) (length done) → IsProgress (tokens_of done) p → Answer all end (reading_from p rest end)
 answers all end done [] p h taken progress =
     let same : done ≡ all = sym (append-nil done) ∙ h in
     subst (Answer all end) (sym (reading_from-nil p end)) (answer_end all end p (is_file_stage p.state.stage) refl
-        (subst (λ ds. AreTaken (tokens_of all) (length ds)) same taken) (subst (λ ds. IsProgress (tokens_of ds) p) same progress))
+    (subst (λ ds. AreTaken (tokens_of all) (length ds)) same taken) (subst (λ ds. IsProgress (tokens_of ds) p) same progress))
 answers all end done (s ∷ rest) p h taken progress =
     subst (Answer all end) (sym (reading_from-cons p s rest end))
-        (answer_step all done rest s end h taken (λ q split t r. answers all end (done ++ s ∷ []) rest q split t r) (taken_on p s.place s.token) (judged (tokens_of done) p s.place s.token progress))
+    (answer_step all done rest s end h taken (λ q split t r. answers all end (done ++ s ∷ []) rest q split t r) (taken_on p s.place s.token) (judged (tokens_of done) p s.place s.token progress))
 
 -- what is right about an answer to a text
 abbrev pub IsAnswer : List ℕ → Result (List Decl) TextFault → Type 0
@@ -232,8 +232,8 @@ pub reading_is : (text : List ℕ) → IsAnswer text (reading text)
 reading_is text = answers_at text (first_byte text) refl
 
 one_fault_at : (text : List ℕ) (o : Option ℕ) (f g : TextFault)
-  → MatchOption o (IsTokenFault (spots text) (length text) f) (λ place. (f.place ≡ place) × (f.kind ≡ NotText))
-  → MatchOption o (IsTokenFault (spots text) (length text) g) (λ place. (g.place ≡ place) × (g.kind ≡ NotText)) → f ≡ g
+    → MatchOption o (IsTokenFault (spots text) (length text) f) (λ place. (f.place ≡ place) × (f.kind ≡ NotText))
+    → MatchOption o (IsTokenFault (spots text) (length text) g) (λ place. (g.place ≡ place) × (g.kind ≡ NotText)) → f ≡ g
 one_fault_at text None f g a b = one_token_fault (spots text) (length text) f g a b
 one_fault_at text (Some place) f g a b = same_fault f g (a.0 ∙ sym b.0) (a.1 ∙ sym b.1)
 

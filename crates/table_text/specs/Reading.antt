@@ -1,5 +1,5 @@
 -- What the reader answers, as a function of the text.
-use Rattle.std.specs.Prelude.{◌≡◌, ℕ, ◌+◌, ◌-◌, Bool, not, ◌&&◌, ◌≤◌, nat_le, if◌then◌else◌, List, [], ◌∷◌, map, length, position, Option, Some, None, Result, Ok, Err}
+use Rattle.std.specs.Prelude.{◌≡◌, ℕ, ◌+◌, ◌-◌, Bool, not, ◌&&◌, ◌≤◌, nat_le, if◌then◌else◌, List, [], ◌∷◌, length, position, Option, Some, None, Result, Ok, Err}
 use Rattle.table_text.specs.Bytes.{is_text}
 use Rattle.table_text.specs.Lexing.{Token, Spot, spots}
 use Rattle.table_text.specs.Faults.{own_fault, is_mark_of, begins_declaration, max_open, max_declarations}
@@ -30,11 +30,11 @@ one_if b = if b then 1 else 0
 
 abbrev pub progress_after : Progress → Token → State → Progress
 progress_after p token state = record {
-    state = state;
-    opened = p.opened + one_if (is_mark_of 40 token);
-    closed = p.closed + one_if (is_mark_of 41 token);
-    begun = p.begun + one_if (begins_declaration token)
-  }
+  state = state;
+  opened = p.opened + one_if (is_mark_of 40 token);
+  closed = p.closed + one_if (is_mark_of 41 token);
+  begun = p.begun + one_if (begins_declaration token);
+}
 
 -- what the limits have against a token
 abbrev pub limit_fault : Progress → Token → Option TextKind

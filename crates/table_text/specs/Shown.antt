@@ -1,5 +1,5 @@
 -- The tokens of the code as tokens of a text.
-use Rattle.std.specs.Prelude.{ℕ, Bool, true, false, Option, Some, None, option_map}
+use Rattle.std.specs.Prelude.{option_map}
 use Rattle.table_text.specs.Lexing as lexing
 use Rattle.table_text.specs.declared.token.Token.{Token}
 use Rattle.table_text.specs.declared.token.Token.TheVariants.{Name, Reserved, Number, Mark, Wrong}

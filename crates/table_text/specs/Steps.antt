@@ -1,7 +1,7 @@
 -- What a step of the code answers, beside what the machine does.
 use Rattle.std.specs.Prelude.{◌≡◌, Option, Some, None, Result, Ok, Err}
-use Rattle.table_text.specs.declared.body.Refusal.{Refusal}
-use Rattle.table_text.specs.declared.body.Refusal.TheVariants.{Unexpected, NoMemory}
+use Rattle.table_text.specs.declared.refusal.Refusal.{Refusal}
+use Rattle.table_text.specs.declared.refusal.Refusal.TheVariants.{Unexpected, NoMemory}
 
 abbrev pub Refuses : {X : Type 0} → Refusal → Option X → Type 0
 Refuses Unexpected next = next ≡ None

@@ -1,13 +1,17 @@
 //! The items of a table that is being read.
 
-ghost use Rattle.std.specs.Prelude.{◌≡◌, ℕ, List, IfOk, Some, None, IsTrue, option_and_then};
+ghost use Rattle.std.specs.Prelude.{◌≡◌};
+ghost use Rattle.table_text.specs.Machine.{is_start, operand_step, operator_step, body_step};
+ghost use Rattle.table_text.specs.Shown.{shown};
+ghost use Rattle.table_text.specs.Steps.{Steps};
 
 use crate::decl::{Item, TableItems};
 use crate::expr::{Expr, Name};
 use crate::formula::Formula;
-use crate::token::{Token, is_mark, is_word};
+use crate::refusal::Refusal;
+use crate::token::{Token, is_mark, is_word, level_of, name_of};
 use sqlite_items::Items;
-use std::alloc::{AllocError, Global};
+use std::alloc::Global;
 
 /// What comes next in a table.
 #[derive(Drop)]
@@ -29,66 +33,6 @@ pub(crate) enum ItemStage {
 pub(crate) struct Body {
     pub items: TableItems,
     pub stage: ItemStage,
-}
-
-/// Why a token isn't taken.
-#[derive(Clone, Copy)]
-pub(crate) enum Refusal {
-    /// The grammar has no such token there.
-    Unexpected,
-    NoMemory,
-}
-
-impl From<AllocError> for Refusal {
-    ghost use Rattle.table_text.specs.declared.body.Refusal.TheVariants.{NoMemory};
-
-    ghost from_gives = { λ _ e. e ≡ NoMemory };
-
-    fn from(_error: AllocError) -> Refusal {
-        Refusal::NoMemory
-    }
-}
-
-ghost use Rattle.table_text.specs.Machine.{name_of, level_of, is_start, no_formula, operand_step, operator_step, body_step};
-ghost use Rattle.table_text.specs.Shown.{shown};
-ghost use Rattle.table_text.specs.Steps.{Steps};
-
-/// A word that isn't reserved, as a name.
-pub(crate) fn name_of(alloc: Global, token: Token<'_>) -> Result<Name, Refusal>
-    ensures { Steps result (name_of (shown token.entry)) }
-{
-    match token {
-        Token::Name(word) => Ok(Items::from_slice(alloc, word)?),
-        _ => Err(Refusal::Unexpected),
-    }
-}
-
-/// The level of a type's word.
-fn level_of(token: Token<'_>) -> Result<u32, Refusal>
-    ensures { Steps result (option_and_then level_of (name_of (shown token.entry))) }
-{
-    let Token::Name(word) = token else {
-        return Err(Refusal::Unexpected);
-    };
-    if word == b"b1".as_slice() {
-        Ok(0)
-    } else if word == b"b2".as_slice() {
-        Ok(1)
-    } else if word == b"b4".as_slice() {
-        Ok(2)
-    } else if word == b"b8".as_slice() {
-        Ok(3)
-    } else if word == b"b16".as_slice() {
-        Ok(4)
-    } else if word == b"b32".as_slice() {
-        Ok(5)
-    } else if word == b"b64".as_slice() {
-        Ok(6)
-    } else if word == b"b128".as_slice() {
-        Ok(7)
-    } else {
-        Err(Refusal::Unexpected)
-    }
 }
 
 /// Whether an item, or the end of the table, comes next.

@@ -26,7 +26,9 @@ pub(crate) struct Formula {
 fn sum_of(mut terms: Exprs) -> Expr
     ensures { result ≡ sum_of terms }
 {
-    if terms.len() == 1 && let Some(term) = terms.pop() {
+    if terms.len() == 1
+        && let Some(term) = terms.pop()
+    {
         return term;
     }
     Expr::Sum(terms)
@@ -36,7 +38,9 @@ fn sum_of(mut terms: Exprs) -> Expr
 fn product_of(mut factors: Exprs) -> Expr
     ensures { result ≡ product_of factors }
 {
-    if factors.len() == 1 && let Some(factor) = factors.pop() {
+    if factors.len() == 1
+        && let Some(factor) = factors.pop()
+    {
         return factor;
     }
     Expr::Product(factors)
@@ -128,10 +132,12 @@ impl Formula {
             mut terms,
             factors,
         } = self;
-        let Some(Frame {
-            terms: outer_terms,
-            factors: mut outer_factors,
-        }) = outer.pop()
+        let Some(
+            Frame {
+                terms: outer_terms,
+                factors: mut outer_factors,
+            },
+        ) = outer.pop()
         else {
             return Ok(None);
         };

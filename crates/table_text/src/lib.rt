@@ -2,7 +2,7 @@
 #![tactic(auto)]
 
 mod body;
-mod bytes_of_text;
+mod byte_classes;
 pub mod decl;
 pub mod expr;
 pub mod fault;
@@ -11,6 +11,7 @@ mod lexer;
 mod number;
 mod progress;
 pub mod read;
+mod refusal;
 mod state;
 pub mod tables;
 mod token;

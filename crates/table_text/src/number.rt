@@ -4,7 +4,7 @@ ghost use Rattle.std.specs.Prelude.{◌≡◌, ◌+◌, ◌*◌, ◌<◌, ◌≤
 ghost use Rattle.std.specs.Option.{SomeIff};
 ghost use Rattle.table_text.specs.Bytes.{digit_value, number_of};
 
-use crate::bytes_of_text::digit_value;
+use crate::byte_classes::digit_value;
 
 /// A number with one digit more, if it is below `2 ^ 128`.
 fn with_digit(base: u8, number: u128, digit: u8) -> Option<u128>

@@ -4,9 +4,9 @@ ghost use Rattle.std.specs.Prelude.{◌≡◌, ◌+◌, ◌<◌, ◌≤◌, ◌^
 ghost use Rattle.table_text.specs.Reading.{CountsWithin, Gives, begin, limit_fault, one_if, taken, after_piece, finished};
 ghost use Rattle.table_text.specs.Shown.{shown};
 
-use crate::body::Refusal;
 use crate::decl::Decls;
 use crate::fault::{TextFault, TextKind, TextStop};
+use crate::refusal::Refusal;
 use crate::state::{State, is_file_stage, start, step};
 use crate::token::{Token, begins_declaration, is_mark, own_fault};
 use std::alloc::Global;
@@ -21,6 +21,7 @@ pub(crate) struct Progress {
 }
 
 const MAX_OPEN: usize = 32;
+
 const MAX_DECLARATIONS: usize = 65535;
 
 /// Before the first token.

@@ -5,11 +5,10 @@ ghost use Rattle.table_text.specs.declared.decl.Decl.{Decl};
 ghost use Rattle.table_text.specs.declared.fault.TextFault.{TextFault};
 ghost use Rattle.table_text.specs.Bytes.{is_text};
 ghost use Rattle.table_text.specs.Faults.{IsTablesText, IsFirstFault};
-
 ghost use Rattle.table_text.specs.Lexing.{spots};
 ghost use Rattle.table_text.specs.Reading.{Gives, begin, reading, reading_from};
 
-use crate::bytes_of_text::is_text;
+use crate::byte_classes::is_text;
 use crate::decl::Decls;
 use crate::fault::{TextFault, TextKind, TextStop};
 use crate::lexer::piece_at;

@@ -5,10 +5,11 @@ ghost use Rattle.table_text.specs.Machine.{start, step, is_file_stage};
 ghost use Rattle.table_text.specs.Shown.{shown};
 ghost use Rattle.table_text.specs.Steps.{Steps};
 
-use crate::body::{Body, ItemStage, Refusal, body_step, is_start, name_of};
+use crate::body::{Body, ItemStage, body_step, is_start};
 use crate::decl::{Decl, Decls};
 use crate::expr::Name;
-use crate::token::{Token, is_mark, is_word};
+use crate::refusal::Refusal;
+use crate::token::{Token, is_mark, is_word, name_of};
 use sqlite_items::Items;
 use std::alloc::Global;
 

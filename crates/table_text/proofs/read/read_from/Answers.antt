@@ -1,4 +1,4 @@
-use Rattle.std.proofs.Common.{◌≡◌, ◌+◌, ◌-◌, ◌≤◌, ◌∙◌, length, take, drop, ap, arith, subst}
+use Rattle.std.proofs.Common.{◌-◌, ◌≤◌, ◌∙◌, length, take, drop, ap, arith, subst}
 use Rattle.std.proofs.lemmas.Result.{err_from_is_err_and}
 use Rattle.table_text.specs.Lexing.{piece_at}
 use Rattle.table_text.specs.Reading.{Gives}
@@ -8,7 +8,7 @@ use Rattle.table_text.proofs.read.read_from.Goals as goal
 pub returns-in_err-progress : goal.returns-in_err-progress
 returns-in_err-progress c = let p = err_from_is_err_and c.from_residual.result c.from_residual.ensures.1 in
     rw (p.1, p.2) (reading_fails c.loop-at.progress _ c.loop-at.at c.piece_at-piece.result.len _ c.args.text.now _ c.loop-at-test.true
-        (c.piece_at-piece.ensures.exact ∙ ap piece_at (tail_is c.loop-at.at c.args.text.now)) c.in_err-progress.ensures.exact c.loop-at.invariant.left)
+    (c.piece_at-piece.ensures.exact ∙ ap piece_at (tail_is c.loop-at.at c.args.text.now)) c.in_err-progress.ensures.exact c.loop-at.invariant.left)
 
 pub loop-at-preserved : goal.loop-at-preserved
 loop-at-preserved c =

@@ -1,4 +1,4 @@
-//! Tests of bytes.
+//! The classes of bytes.
 
 ghost use Rattle.std.specs.Prelude.{◌≡◌, ◌≤◌};
 ghost use Rattle.table_text.specs.Bytes as bytes;
