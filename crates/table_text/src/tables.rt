@@ -33,6 +33,13 @@ impl Tables {
     ghost use Rattle.std.specs.Prelude.{◌≤◌};
     ghost use Rattle.table_text.specs.Valid.{LevelsFit, declarations};
 
+    pub(crate) fn new(decls: Decls) -> Tables
+        requires { LevelsFit decls }
+        ensures { result ≡ decls }
+    {
+        Tables { decls }
+    }
+
     /// The declarations.
     pub fn decls(&self) -> &[Decl]
         ensures all { result.now ≡ self.now }
