@@ -30,7 +30,7 @@ fn hex(alloc: Global, n: u128) -> Result<Vec<u8>, AllocError>
         text.insert(0, hex_digit((rest % 16) as u8))?;
         rest /= 16;
         if rest == 0 {
-            break;
+            return Ok(text);
         }
     }
     Ok(text)

@@ -10,3 +10,4 @@ pub mod Judged
 pub mod Verdicts
 pub mod Levels
 pub mod Clauses
+pub mod Declared

@@ -34,7 +34,8 @@ impl Tables {
     ghost use Rattle.table_text.specs.Valid.{LevelsFit, declarations};
 
     pub(crate) fn new(decls: Decls) -> Tables
-        requires { LevelsFit decls }
+        requires levels { LevelsFit decls }
+        requires few { declarations decls ≤ 65535 }
         ensures { result ≡ decls }
     {
         Tables { decls }
