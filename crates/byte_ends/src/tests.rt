@@ -3,6 +3,7 @@ use crate::{
     read_whole,
 };
 use std::alloc::Global;
+use std::process::Abort;
 use std::test::Fail;
 use std::{env, fs, process};
 
@@ -39,36 +40,61 @@ fn mem_shelf_reads(rt: HostRuntime) -> Result<(), Fail> {
             assert_eq!(rt; into.get(..count), Some(bytes), "at {at} of {name}");
         }
     }
-    let mut small = [0; 2];
-    assert_eq!(rt; shelf.read("a", 0, &mut small), Ok(2));
-    assert_eq!(rt; &small, b"he");
-    assert_eq!(rt; shelf.read("a", 0, &mut []), Ok(0));
     Ok(())
+}
+
+// A step on a shelf, and what it answers: how many bytes it took.
+#[derive(Clone, Copy)]
+enum Step {
+    Create(&'static str),
+    Append(&'static str, &'static [u8]),
+    Reserve(&'static str, usize),
+    Put(&'static str, &'static [u8]),
+}
+
+fn take_step(shelf: &mut MemShelf, step: Step) -> Result<usize, Failed> {
+    match step {
+        Step::Create(name) => shelf.create(name).map(|()| 0),
+        Step::Append(name, piece) => shelf.append(name, piece),
+        Step::Reserve(name, room) => shelf.reserve(name, room).map(|()| 0).map_err(|_| Failed),
+        Step::Put(name, bytes) => shelf.put_file(name, bytes).map(|()| 0).map_err(|_| Failed),
+    }
 }
 
 #[test]
 fn mem_shelf_writes(rt: HostRuntime) -> Result<(), Fail> {
     let mut shelf = shelf_with(rt.alloc(), 3, &[5], b"hello")?;
-    shelf.reserve("b", 4)?;
-    assert_eq!(rt; shelf.append("b", b"x"), Err(Failed), "no file yet");
-    assert_eq!(rt; shelf.create("c"), Err(Failed), "neither put nor reserved");
-    assert_eq!(rt; shelf.file("b"), None);
-    assert_eq!(rt; shelf.create("b"), Ok(()));
-    assert_eq!(rt; shelf.append("b", b"12345"), Ok(3), "a piece of three");
-    assert_eq!(rt; shelf.append("b", b"45"), Ok(1), "as far as the room goes");
-    assert_eq!(rt; shelf.append("b", b""), Err(Failed), "a listed call");
-    assert_eq!(rt; shelf.append("b", b"5"), Err(Failed), "no room");
-    assert_eq!(rt; shelf.append("b", b""), Ok(0));
-    assert_eq!(rt; shelf.file("b"), Some(b"1234".as_slice()));
-    assert_eq!(rt; shelf.create("a"), Ok(()));
-    assert_eq!(rt; shelf.file("a"), Some(b"".as_slice()));
-    assert_eq!(rt; shelf.append("a", b"again"), Ok(3), "the room stays");
-    shelf.put_file("b", b"longer than four")?;
-    assert_eq!(rt; shelf.file("b"), Some(b"longer than four".as_slice()));
-    assert_eq!(rt; shelf.file("a"), Some(b"aga".as_slice()));
-    shelf.reserve("a", 2)?;
-    assert_eq!(rt; shelf.append("a", b"in"), Ok(2), "a room never falls");
-    assert_eq!(rt; shelf.file("a"), Some(b"again".as_slice()));
+    let steps: [(Step, Result<usize, Failed>); 16] = [
+        (Step::Reserve("b", 4), Ok(0)),
+        (Step::Append("b", b"no file yet"), Err(Failed)),
+        (Step::Create("neither put nor reserved"), Err(Failed)),
+        (Step::Create("b"), Ok(0)),
+        (Step::Append("b", b"a piece"), Ok(3)),
+        (Step::Append("b", b"room for one"), Ok(1)),
+        (Step::Append("b", b""), Err(Failed)),
+        (Step::Append("b", b"no room"), Err(Failed)),
+        (Step::Append("b", b""), Ok(0)),
+        (Step::Create("a"), Ok(0)),
+        (Step::Append("a", b"again"), Ok(3)),
+        (Step::Reserve("a", 2), Ok(0)),
+        (Step::Append("a", b"in and in"), Ok(2)),
+        (Step::Put("c", b"put"), Ok(0)),
+        (Step::Put("d", b"first"), Ok(0)),
+        (Step::Put("d", b"and then longer"), Ok(0)),
+    ];
+    for (step, want) in steps {
+        assert_eq!(rt; take_step(&mut shelf, step), want);
+    }
+    let files: [(&str, Option<&[u8]>); 5] = [
+        ("a", Some(b"again")),
+        ("b", Some(b"a pr")),
+        ("c", Some(b"put")),
+        ("d", Some(b"and then longer")),
+        ("neither put nor reserved", None),
+    ];
+    for (name, want) in files {
+        assert_eq!(rt; shelf.file(name), want, "file {name}");
+    }
     Ok(())
 }
 
@@ -126,13 +152,28 @@ fn puts_whole_pieces(rt: HostRuntime) -> Result<(), Fail> {
 fn mem_sink_takes_pieces(rt: HostRuntime) -> Result<(), Fail> {
     let failing = Vec::from_slice(rt.alloc(), &[1])?;
     let mut sink = MemSink::new(rt.alloc(), 2, failing, 3)?;
-    assert_eq!(rt; sink.put(b"abc"), Ok(2), "a piece of two");
-    assert_eq!(rt; sink.put(b"c"), Err(Failed), "a listed call");
-    assert_eq!(rt; sink.put(b"cd"), Ok(1), "as far as the room goes");
-    assert_eq!(rt; sink.put(b"d"), Err(Failed), "no room");
-    assert_eq!(rt; sink.put(b""), Ok(0));
+    let pieces: [(&[u8], Result<usize, Failed>); 5] = [
+        (b"abc", Ok(2)),
+        (b"a listed call", Err(Failed)),
+        (b"cd", Ok(1)),
+        (b"no room", Err(Failed)),
+        (b"", Ok(0)),
+    ];
+    for (piece, want) in pieces {
+        assert_eq!(rt; sink.put(piece), want);
+    }
     assert_eq!(rt; sink.bytes(), b"abc".as_slice());
     Ok(())
+}
+
+// Reads at places of a real file, and compares what is given.
+fn read_places(rt: &impl Abort, shelf: &mut impl Shelf, name: &str, places: &[(u64, &[u8])]) {
+    for (at, want) in places {
+        let mut into = [0; 4];
+        let given = shelf.read(name, *at, &mut into);
+        assert_eq!(rt; given, Ok(want.len()), "at {at}");
+        assert_eq!(rt; into.get(..want.len()), Some(*want), "at {at}");
+    }
 }
 
 #[test]
@@ -142,29 +183,25 @@ fn os_shelf_over_real_files(rt: HostRuntime) -> Result<(), Fail> {
     let path = env::temp_dir(&rt)?.join(rt.alloc(), file_name.as_str())?;
     let name = path.to_str().ok_or("a path that is text")?;
     let mut shelf = OsShelf::new(&rt);
-    let mut into = [0; 4];
-    assert_eq!(rt;
-        shelf.read(name, 0, &mut into),
-        Err(Failed),
-        "a missing file"
-    );
+    let missing = read_whole(rt.alloc(), &mut shelf, name, 11).err();
+    assert_eq!(rt; missing, Some(WholeStop::ReadFault));
     assert_eq!(rt; shelf.append(name, b"x"), Err(Failed), "a missing file");
+    assert_eq!(rt; shelf.create("no/such/folder"), Err(Failed));
     assert_eq!(rt; shelf.create(name), Ok(()));
-    assert_eq!(rt; shelf.read(name, 0, &mut into), Ok(0));
-    assert_eq!(rt; shelf.append(name, b"hello"), Ok(5));
-    assert_eq!(rt; shelf.append(name, b" world"), Ok(6));
-    assert_eq!(rt; shelf.append(name, b""), Ok(0));
-    assert_eq!(rt; shelf.read(name, 4, &mut into), Ok(4));
-    assert_eq!(rt; &into, b"o wo");
-    assert_eq!(rt; shelf.read(name, 11, &mut into), Ok(0));
+    for piece in [b"hello".as_slice(), b" world", b""] {
+        assert_eq!(rt; shelf.append(name, piece), Ok(piece.len()));
+    }
+    read_places(
+        &rt,
+        &mut shelf,
+        name,
+        &[(0, b"hell"), (4, b"o wo"), (9, b"ld"), (11, b"")],
+    );
     let whole = read_whole(rt.alloc(), &mut shelf, name, 11)?;
     assert_eq!(rt; whole.as_slice(), b"hello world".as_slice());
-    let too_long = read_whole(rt.alloc(), &mut shelf, name, 10).err();
-    assert_eq!(rt; too_long, Some(WholeStop::TooLong));
     assert_eq!(rt; shelf.create(name), Ok(()));
-    assert_eq!(rt; shelf.read(name, 0, &mut into), Ok(0), "empty again");
+    read_places(&rt, &mut shelf, name, &[(0, b"")]);
     fs::remove_file(&rt, name)?;
-    assert_eq!(rt; shelf.create("no/such/folder"), Err(Failed));
     Ok(())
 }
 
