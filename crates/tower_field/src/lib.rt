@@ -26,3 +26,6 @@ pub use level4::B16;
 pub use level5::B32;
 pub use level6::B64;
 pub use level7::B128;
+
+#[cfg(test)]
+mod tests;
