@@ -32,7 +32,7 @@ product_with g x a0 a1 n h k =
     from_two (mul n (mul a1 a1)) 1 h k
     (identity (g ∷ x ∷ a0 ∷ a1 ∷ n ∷ []) (search field_terms depth 60 fits 20000) refl)
 
-norm_lt : (i a0 a1 : ℕ) → a0 < 2 ^ (2 ^ i) → a1 < 2 ^ (2 ^ i) → norm (generator i) a0 a1 < 2 ^ (2 ^ i)
+pub norm_lt : (i a0 a1 : ℕ) → a0 < 2 ^ (2 ^ i) → a1 < 2 ^ (2 ^ i) → norm (generator i) a0 a1 < 2 ^ (2 ^ i)
 norm_lt i a0 a1 h k = xor_lt (2 ^ i) _ _ (mul_lt i a0 a0 h h) (xor_lt (2 ^ i) _ _ (mul_lt i (mul a0 a1) (generator i) (mul_lt i a0 a1 h k) (generator_lt i)) (mul_lt i a1 a1 k k))
 
 -- a norm is 0 only for the pair of zeros
