@@ -59,6 +59,27 @@ impl Tower for B128 {
         }
     }
 
+    fn square(self) -> B128 {
+        B128 {
+            bits: self.bits.squared(),
+        }
+    }
+
+    fn inverse(self) -> Option<B128> {
+        if self.bits == 0 {
+            return None;
+        }
+        Some(B128 {
+            bits: self.bits.inverted(),
+        })
+    }
+
+    fn mul_gen(self) -> B128 {
+        B128 {
+            bits: self.bits.carried(),
+        }
+    }
+
     fn split(self) -> (u128, u128) {
         (low128(self.bits) as u128, high128(self.bits) as u128)
     }
