@@ -1,7 +1,8 @@
 //! Values from outside, and each call once at every type.
 
-use crate::{B1, B2, B4, B8, B16, B32, B64, B128, Tower, lift};
+use crate::{B1, B2, B4, B8, B16, B32, B64, B128, Tower, Values, lift, lower};
 use std::process::Abort;
+use std::test::Fail;
 
 /// Products at one level, each as two factors and their product.
 fn products<F: Tower>(rt: &impl Abort, cases: &[(u128, u128, u128)]) {
@@ -25,6 +26,9 @@ fn edges<F: Tower>(rt: &impl Abort, greatest: u128, halves: (u128, u128)) {
         assert!(rt; F::from_number(above).is_none());
     }
     assert_eq!(rt; F::ZERO.number(), 0);
+    assert!(rt; F::ZERO.inverse().is_none());
+    assert_eq!(rt; F::ONE.inverse().map(|one| one.number()), Some(1));
+    assert_eq!(rt; F::ONE.square().number(), 1);
     assert_eq!(rt; F::ONE.add(F::ONE).number(), 0);
 }
 
@@ -70,4 +74,61 @@ fn halves_and_levels(rt: HostRuntime) {
     assert_eq!(rt; lift::<B8, B128>(B8::join(1, 2)).number(), 33);
     assert_eq!(rt; lift::<B8, B8>(B8::join(1, 2)), B8::join(1, 2));
     assert_eq!(rt; lift::<B1, B2>(B1::ONE), B2::ONE);
+}
+
+/// How many of the numbers below `end` are no element or have no inverse whose product with them is 1.
+fn without_inverse<F: Tower>(end: u128) -> u128 {
+    let mut count = 0;
+    for n in 0..end {
+        let product = match F::from_number(n) {
+            Some(element) => element.inverse().map(|inverse| inverse.mul(element).number()),
+            None => None,
+        };
+        if product != Some(1) {
+            count += 1;
+        }
+    }
+    count
+}
+
+#[test]
+fn inverses(rt: HostRuntime) {
+    assert_eq!(rt; B2::join(0, 1).inverse(), Some(B2::join(1, 1)));
+    assert_eq!(rt; without_inverse::<B2>(4), 1);
+    assert_eq!(rt; without_inverse::<B4>(16), 1);
+    assert_eq!(rt; without_inverse::<B8>(256), 1);
+}
+
+#[test]
+fn generators(rt: HostRuntime) {
+    assert_eq!(rt; B1::ONE.mul_gen().number(), 1);
+    assert_eq!(rt; B2::ONE.mul_gen().number(), 2);
+    assert_eq!(rt; B4::ONE.mul_gen().number(), 4);
+    assert_eq!(rt; B8::ONE.mul_gen().number(), 16);
+    assert_eq!(rt; B16::ONE.mul_gen().number(), 1 << 8);
+    assert_eq!(rt; B32::ONE.mul_gen().number(), 1 << 16);
+    assert_eq!(rt; B64::ONE.mul_gen().number(), 1 << 32);
+    assert_eq!(rt; B128::ONE.mul_gen().number(), 1 << 64);
+    assert_eq!(rt; B128::ONE.mul_gen().square().number(), (1 << 96) + 1);
+}
+
+#[test]
+fn bytes_and_lists(rt: HostRuntime) -> Result<(), Fail> {
+    let mut bytes = [0; 16];
+    bytes[0] = 2;
+    bytes[15] = 128;
+    let element = B128::from_bytes(bytes);
+    assert_eq!(rt; element.number(), (1 << 127) + 2);
+    assert_eq!(rt; element.to_bytes(), bytes);
+    assert_eq!(rt; element + element, B128::ZERO);
+    assert_eq!(rt; element * B128::ONE, element);
+    assert!(rt; lower::<B128, B64>(element).is_none());
+    assert_eq!(rt; lower::<B128, B2>(B128::join(3, 0)), Some(B2::join(1, 1)));
+    let mut values = Values::new(rt.alloc());
+    assert_eq!(rt; values.push(element), Ok(()));
+    assert_eq!(rt; values.push(B128::ONE), Ok(()));
+    assert_eq!(rt; values.as_slice(), [element, B128::ONE].as_slice());
+    let items = values.into_vec();
+    assert_eq!(rt; Values::from_vec(items).as_slice().len(), 2);
+    Ok(())
 }
