@@ -76,27 +76,23 @@ fn halves_and_levels(rt: HostRuntime) {
     assert_eq!(rt; lift::<B1, B2>(B1::ONE), B2::ONE);
 }
 
-/// How many of the numbers below `end` are no element or have no inverse whose product with them is 1.
-fn without_inverse<F: Tower>(end: u128) -> u128 {
-    let mut count = 0;
-    for n in 0..end {
+/// Each number below `end` but 0 has an inverse whose product with it is 1.
+fn inverses_below<F: Tower>(rt: &impl Abort, end: u128) {
+    for n in 1..end {
         let product = match F::from_number(n) {
             Some(element) => element.inverse().map(|inverse| inverse.mul(element).number()),
             None => None,
         };
-        if product != Some(1) {
-            count += 1;
-        }
+        assert_eq!(rt; product, Some(1), "{n}");
     }
-    count
 }
 
 #[test]
 fn inverses(rt: HostRuntime) {
     assert_eq!(rt; B2::join(0, 1).inverse(), Some(B2::join(1, 1)));
-    assert_eq!(rt; without_inverse::<B2>(4), 1);
-    assert_eq!(rt; without_inverse::<B4>(16), 1);
-    assert_eq!(rt; without_inverse::<B8>(256), 1);
+    inverses_below::<B2>(&rt, 4);
+    inverses_below::<B4>(&rt, 16);
+    inverses_below::<B8>(&rt, 256);
 }
 
 #[test]

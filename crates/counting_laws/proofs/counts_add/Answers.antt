@@ -1,4 +1,4 @@
-use Rattle.std.proofs.Common.{◌≡◌, ℕ, ◌≤◌, Bool, true, false, not, ◌||◌, arith}
+use Rattle.std.proofs.Common.{◌≡◌, Bool, true, false, not, ◌||◌, arith}
 use Rattle.counting_laws.proofs.Bounds.{at_most_split, at_most_weaker}
 use Rattle.counting_laws.proofs.counts_add.Goals as goal
 
