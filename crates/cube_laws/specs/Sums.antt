@@ -1,0 +1,13 @@
+-- Sums and products over the numbers below n, from the front.
+use Rattle.std.specs.Prelude.{ℕ, zero, suc, bit_xor}
+use Rattle.tower_laws.specs.Tower.{mul}
+
+-- f 0 + f 1 + .. + f (n - 1)
+abbrev pub sum_to : ℕ → (ℕ → ℕ) → ℕ
+sum_to zero f = 0
+sum_to (suc n) f = bit_xor (f 0) (sum_to n (λ k. f (suc k)))
+
+-- f 0 · f 1 · .. · f (n - 1)
+abbrev pub product_to : ℕ → (ℕ → ℕ) → ℕ
+product_to zero f = 1
+product_to (suc n) f = mul (f 0) (product_to n (λ k. f (suc k)))
