@@ -1,0 +1,27 @@
+//! The outside as traits: files on a shelf and a sink for bytes, each with counts of its faults.
+#![tactic(auto)]
+
+mod counts;
+mod failed;
+mod mem_file;
+mod mem_shelf;
+mod mem_sink;
+mod os_shelf;
+mod os_sink;
+mod putting;
+mod reading;
+mod shelf;
+mod sink;
+
+pub use failed::Failed;
+pub use mem_shelf::MemShelf;
+pub use mem_sink::MemSink;
+pub use os_shelf::OsShelf;
+pub use os_sink::OsSink;
+pub use putting::{WriteFault, put_whole};
+pub use reading::{WholeStop, read_whole};
+pub use shelf::Shelf;
+pub use sink::Sink;
+
+/// The error of a call that can fail by want of memory alone.
+pub type NoMemory = std::alloc::AllocError;

@@ -1,0 +1,3 @@
+pub mod ShapeSteps
+pub mod Searching
+pub mod Products

@@ -1,0 +1,21 @@
+-- A product over a list, one factor after another.
+use Rattle.std.proofs.Common.{◌≡◌, ℕ, suc, ◌<◌, ◌≤◌, ◌+◌, List, [], ◌∷◌, length, drop, get_or, map, refl, sym, ◌∙◌, ap, subst, drop-cons, add-one}
+use Rattle.std.proofs.lemmas.List.{drop_all}
+use Rattle.tower_laws.specs.Tower.{mul}
+use Rattle.tower_laws.proofs.Levels.{field_one, field_comm, field_assoc}
+use Rattle.m3_tool.specs.Value.{product_all}
+
+mul-one : (a : ℕ) → mul a 1 ≡ a
+mul-one a = field_comm a 1 ∙ field_one a
+
+-- the product so far takes in the factor at a place
+pub products_next : {X : Type 0} (V : X → ℕ) (parts : List X) (i : ℕ) (part : X) (product all : ℕ)
+    → i < length parts → part ≡ get_or parts i part → mul product (product_all (map V (drop i parts))) ≡ all → mul (mul product (V part)) (product_all (map V (drop (i + 1) parts))) ≡ all
+products_next V parts i part product all below is so_far =
+    let e : drop i parts ≡ part ∷ drop (i + 1) parts = drop-cons parts i part below ∙ rw (← is, add-one) refl in
+    field_assoc product (V part) (product_all (map V (drop (i + 1) parts))) ∙ subst (λ ps. mul product (product_all (map V ps)) ≡ all) e so_far
+
+-- no factor is left
+pub products_done : {X : Type 0} (V : X → ℕ) (parts : List X) (i product all : ℕ) → length parts ≤ i → mul product (product_all (map V (drop i parts))) ≡ all → product ≡ all
+products_done V parts i product all past so_far =
+    sym (mul-one product) ∙ subst (λ ps. mul product (product_all (map V ps)) ≡ all) (drop_all i parts past) so_far

@@ -1,0 +1,83 @@
+-- Steps of the search for the first value that isn't 0.
+use Rattle.std.proofs.Common.{◌≡◌, ℕ, zero, suc, ◌<◌, ◌≤◌, ◌+◌, ◌^◌, List, [], ◌∷◌, length, get_or, Option, Some, refl, sym, ◌∙◌, ap, subst, arith, below_more}
+use Rattle.std.specs.List.{slice_get, slice_index}
+use Rattle.std.proofs.lemmas.Option.{slice_get_within}
+use Rattle.m3_tool.specs.declared.shape.ConstraintShape.{ConstraintShape}
+use Rattle.m3_tool.specs.declared.shape.TableShape.{TableShape}
+use Rattle.m3_tool.specs.Shape.{ConstraintsFit, TableFits, TablesFit}
+use Rattle.m3_tool.specs.Filling.{Filling}
+use Rattle.m3_tool.specs.Satisfies.{value_at, IsZeroOnRows, AreZero, TablesAreZero, IsFirstViolation}
+use Rattle.m3_tool.specs.Judging.{IsZeroAtIndices, IsFirstInRow, IsFirstFound, IsFirstInTable}
+use Rattle.m3_tool.specs.declared.judge.Found.{Found}
+use Rattle.m3_tool.specs.declared.judge.Violation.{Violation}
+
+pub IsZeroOnRows-more : (filling : Filling) (t : ℕ) (constraint : ConstraintShape) (n : ℕ)
+    → IsZeroOnRows filling t constraint n → IsZeroAtIndices filling t constraint n (2 ^ constraint.log_values) → IsZeroOnRows filling t constraint (n + 1)
+IsZeroOnRows-more filling t constraint n before here row index below =
+    let P : ℕ → Type 0 = λ row. index < 2 ^ constraint.log_values → value_at filling t constraint row index ≡ 0 in
+    below_more P n (λ row h at. before row index h at) (here index) row below
+
+pub found_in_row : (filling : Filling) (t : ℕ) (constraint : ConstraintShape) (n rows : ℕ) (found : Found)
+    → n < rows → IsZeroOnRows filling t constraint n → IsFirstInRow filling t constraint n found → IsFirstFound filling t constraint rows found
+found_in_row filling t constraint n rows found below before first = record {
+  row = omega (arith, first.row_is);
+  index = first.index;
+  value = subst (λ (r : ℕ). found.value ≡ value_at filling t constraint r found.index) (sym first.row_is) first.value;
+  not_zero = first.not_zero;
+  rows_before = subst (λ (r : ℕ). IsZeroOnRows filling t constraint r) (sym first.row_is) before;
+  indices_before = subst (λ (r : ℕ). IsZeroAtIndices filling t constraint r found.index) (sym first.row_is) first.before;
+}
+
+pub AreZero-more : (filling : Filling) (t : ℕ) (table : TableShape) (rows n : ℕ) (here : ConstraintShape)
+    → slice_get table.constraints n ≡ Some here → AreZero filling t table rows n → IsZeroOnRows filling t here rows → AreZero filling t table rows (n + 1)
+AreZero-more filling t table rows n here is before none z constraint below at =
+    let P : ℕ → Type 0 = λ z. slice_get table.constraints z ≡ Some constraint → IsZeroOnRows filling t constraint rows in
+    below_more P n (λ z h at. before z constraint h at) (λ at. let same : here ≡ constraint = some_injective (sym is ∙ at) in subst (λ (c : ConstraintShape). IsZeroOnRows filling t c rows) same none) z below at
+  where
+    some_injective : {X : Type 0} {x y : X} → Some x ≡ Some y → x ≡ y
+    some_injective e = cc
+
+pub TablesAreZero-more : (filling : Filling) (tables : List TableShape) (rows : List ℕ) (n : ℕ) (here : TableShape)
+    → slice_get tables n ≡ Some here → TablesAreZero tables rows filling n → AreZero filling n here (slice_index rows n) (length here.constraints) → TablesAreZero tables rows filling (n + 1)
+TablesAreZero-more filling tables rows n here is before none t table z constraint below at found =
+    let P : ℕ → Type 0 = λ t. slice_get tables t ≡ Some table → slice_get table.constraints z ≡ Some constraint → IsZeroOnRows filling t constraint (slice_index rows t) in
+    below_more P n (λ t h at found. before t table z constraint h at found)
+    (λ at found.
+    let same : here ≡ table = some_injective (sym is ∙ at) in
+    let zeroes : AreZero filling n table (slice_index rows n) (length table.constraints) = subst (λ (s : TableShape). AreZero filling n s (slice_index rows n) (length s.constraints)) same none in
+    zeroes z constraint (slice_get_within table.constraints z constraint found) found)
+    t below at found
+  where
+    some_injective : {X : Type 0} {x y : X} → Some x ≡ Some y → x ≡ y
+    some_injective e = cc
+
+pub ConstraintsFit-get : (constraints : List ConstraintShape) (i : ℕ) (d : ConstraintShape) → ConstraintsFit constraints → i < length constraints → (get_or constraints i d).log_values ≤ 7
+ConstraintsFit-get [] i d fit below = absurd (omega arith)
+ConstraintsFit-get (z ∷ constraints) zero d fit below = fit.0
+ConstraintsFit-get (z ∷ constraints) (suc i) d fit below = ConstraintsFit-get constraints i d fit.1 (omega arith)
+
+pub TablesFit-get : (tables : List TableShape) (i : ℕ) (d : TableShape) → TablesFit tables → i < length tables → TableFits (get_or tables i d)
+TablesFit-get [] i d fit below = absurd (omega arith)
+TablesFit-get (t ∷ tables) zero d fit below = fit.0
+TablesFit-get (t ∷ tables) (suc i) d fit below = TablesFit-get tables i d fit.1 (omega arith)
+
+pub found_in_table : (filling : Filling) (tables : List TableShape) (rows : List ℕ) (n : ℕ) (table : TableShape) (v : Violation)
+    → slice_get tables n ≡ Some table → TablesAreZero tables rows filling n → v.table ≡ n → IsFirstInTable filling table (slice_index rows n) v → IsFirstViolation tables rows filling v
+found_in_table filling tables rows n table v at before is first =
+    let same : n ≡ v.table = sym is in
+    let found : IsFirstFound filling v.table first.constraint (slice_index rows v.table) (record { row = v.row; index = v.index; value = v.value }) =
+    subst (λ (m : ℕ). IsFirstFound filling v.table first.constraint (slice_index rows m) (record { row = v.row; index = v.index; value = v.value })) same first.found in
+    record {
+      table = table;
+      constraint = first.constraint;
+      table_is = subst (λ (m : ℕ). slice_get tables m ≡ Some table) same at;
+      constraint_is = first.is;
+      row = found.row;
+      index = found.index;
+      value = found.value;
+      not_zero = found.not_zero;
+      tables_before = subst (λ (m : ℕ). TablesAreZero tables rows filling m) same before;
+      constraints_before = subst (λ (m : ℕ). AreZero filling v.table table (slice_index rows m) v.constraint) same first.before;
+      rows_before = found.rows_before;
+      indices_before = found.indices_before;
+    }

@@ -1,0 +1,5 @@
+use Rattle.m3_tool.specs.Satisfies.{TablesAreZero}
+use Rattle.m3_tool.proofs.judge.judge.Given as goal
+
+abbrev pub invariant-loop-number : goal.invariant-loop-number
+invariant-loop-number l = TablesAreZero l.store.tables l.store.rows l.store.filling l.number

@@ -1,0 +1,50 @@
+-- The first value that isn't 0, searched part by part.
+use Rattle.std.specs.Prelude.{◌≡◌, ◌≢◌, ℕ, ◌^◌, ◌<◌, List, slice_index, slice_get, Some, Option, MatchOption}
+use Rattle.m3_tool.specs.declared.shape.ConstraintShape.{ConstraintShape}
+use Rattle.m3_tool.specs.declared.shape.TableShape.{TableShape}
+use Rattle.m3_tool.specs.declared.judge.Found.{Found}
+use Rattle.m3_tool.specs.declared.judge.Violation.{Violation}
+use Rattle.m3_tool.specs.declared.judge.Verdict.{Verdict}
+use Rattle.m3_tool.specs.declared.judge.Verdict.TheVariants.{Satisfied, Violated}
+use Rattle.m3_tool.specs.Filling.{Filling}
+use Rattle.m3_tool.specs.Satisfies.{value_at, IsZeroOnRows, AreZero, Satisfies, IsFirstViolation}
+
+-- the first indices of a row, n of them, have the value 0
+abbrev pub IsZeroAtIndices : Filling → ℕ → ConstraintShape → ℕ → ℕ → Type 0
+IsZeroAtIndices filling t constraint row n = (index : ℕ) → index < n → value_at filling t constraint row index ≡ 0
+
+-- the first value of a constraint in a row that isn't 0
+pub record IsFirstInRow (filling : Filling) (t : ℕ) (constraint : ConstraintShape) (row : ℕ) (found : Found) : Type 0 where
+  pub row_is : found.row ≡ row
+  pub index : found.index < 2 ^ constraint.log_values
+  pub value : found.value ≡ value_at filling t constraint row found.index
+  pub not_zero : found.value ≢ 0
+  pub before : IsZeroAtIndices filling t constraint row found.index
+
+-- the first value of a constraint that isn't 0
+pub record IsFirstFound (filling : Filling) (t : ℕ) (constraint : ConstraintShape) (rows : ℕ) (found : Found) : Type 0 where
+  pub row : found.row < rows
+  pub index : found.index < 2 ^ constraint.log_values
+  pub value : found.value ≡ value_at filling t constraint found.row found.index
+  pub not_zero : found.value ≢ 0
+  pub rows_before : IsZeroOnRows filling t constraint found.row
+  pub indices_before : IsZeroAtIndices filling t constraint found.row found.index
+
+-- a search through the first rows finds the first value that isn't 0, or all are 0
+abbrev pub FindsFirst : Filling → ℕ → ConstraintShape → ℕ → Option Found → Type 0
+FindsFirst filling t constraint rows found = MatchOption found (IsZeroOnRows filling t constraint rows) (IsFirstFound filling t constraint rows)
+
+-- a constraint of a table whose first value that isn't 0 is this, after constraints that are 0
+pub record IsFirstInTable (filling : Filling) (table : TableShape) (rows : ℕ) (v : Violation) : Type 0 where
+  pub constraint : ConstraintShape
+  pub is : slice_get table.constraints v.constraint ≡ Some constraint
+  pub found : IsFirstFound filling v.table constraint rows (record { row = v.row; index = v.index; value = v.value })
+  pub before : AreZero filling v.table table rows v.constraint
+
+abbrev pub FindsFirstInTable : Filling → ℕ → TableShape → ℕ → ℕ → Option Violation → Type 0
+FindsFirstInTable filling t table rows n found = MatchOption found (AreZero filling t table rows n) (λ v. (v.table ≡ t) × IsFirstInTable filling table rows v)
+
+-- what a verdict says
+abbrev pub IsVerdict : List TableShape → List ℕ → Filling → Verdict → Type 0
+IsVerdict tables rows filling Satisfied = Satisfies tables rows filling
+IsVerdict tables rows filling (Violated v) = IsFirstViolation tables rows filling v

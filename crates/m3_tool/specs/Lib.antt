@@ -1,0 +1,11 @@
+pub mod Steps
+pub mod Size
+pub mod Value
+pub mod Shape
+pub mod Gives
+pub mod Digits
+pub mod Filling
+pub mod Satisfies
+pub mod Witness
+pub mod Stored
+pub mod Judging

@@ -1,0 +1,42 @@
+-- The value of an expression, and its degree.
+use Rattle.std.specs.Prelude.{ℕ, ◌+◌, max, List, [], ◌∷◌, bit_xor}
+use Rattle.tower_laws.specs.Tower.{mul}
+use Rattle.m3_tool.specs.declared.shape.ShapeExpr.{ShapeExpr}
+use Rattle.m3_tool.specs.declared.shape.ShapeExpr.TheOpen.{ShapeExpr-F}
+use Rattle.m3_tool.specs.declared.shape.ShapeExpr.TheFolds.{fold-ShapeExpr}
+
+abbrev pub sum_all : List ℕ → ℕ
+sum_all [] = 0
+sum_all (x ∷ xs) = bit_xor x (sum_all xs)
+
+abbrev pub product_all : List ℕ → ℕ
+product_all [] = 1
+product_all (x ∷ xs) = mul x (product_all xs)
+
+abbrev pub value_step : (ℕ → ℕ) → ShapeExpr-F ℕ → ℕ
+value_step column (ShapeExpr-F.Number n) = n
+value_step column (ShapeExpr-F.Column k) = column k
+value_step column (ShapeExpr-F.Sum parts) = sum_all parts
+value_step column (ShapeExpr-F.Product parts) = product_all parts
+
+-- the value of an expression, by the value of each column
+abbrev pub value : (ℕ → ℕ) → ShapeExpr → ℕ
+value column = fold-ShapeExpr ℕ (value_step column)
+
+abbrev pub greatest : List ℕ → ℕ
+greatest [] = 0
+greatest (x ∷ xs) = max x (greatest xs)
+
+abbrev pub total : List ℕ → ℕ
+total [] = 0
+total (x ∷ xs) = x + total xs
+
+abbrev pub degree_step : ShapeExpr-F ℕ → ℕ
+degree_step (ShapeExpr-F.Number n) = 0
+degree_step (ShapeExpr-F.Column k) = 1
+degree_step (ShapeExpr-F.Sum parts) = greatest parts
+degree_step (ShapeExpr-F.Product parts) = total parts
+
+-- of a number 0, of a column 1, of a sum the greatest, of a product the sum
+abbrev pub degree : ShapeExpr → ℕ
+degree = fold-ShapeExpr ℕ degree_step

@@ -1,0 +1,8 @@
+//! The commands of the program, as one call over a shelf of files and a sink of bytes.
+#![tactic(auto)]
+
+pub mod judge;
+pub mod resolve;
+pub mod shape;
+pub mod store;
+pub mod witness;

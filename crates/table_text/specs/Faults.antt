@@ -1,0 +1,99 @@
+-- Which texts are read, and the first fault of each other one.
+use Rattle.std.specs.Prelude.{◌≡◌, ℕ, ◌-◌, ◌<◌, ◌≤◌, not, ◌==◌, if◌then◌else◌, List, [], ◌∷◌, ◌++◌, length, take, map, position, count_by, slice_get, codes, Bool, true, false, Option, Some, None, MatchOption}
+use Rattle.std.specs.List.{list_any}
+use Rattle.std.specs.Str.{bytes_eq}
+use Rattle.table_text.specs.Bytes.{is_text}
+use Rattle.table_text.specs.Lexing.{Token, name, reserved, number, mark, wrong, Spot, spots}
+use Rattle.table_text.specs.Grammar.{IsFile, Begins}
+use Rattle.table_text.specs.declared.decl.Decl.{Decl}
+use Rattle.table_text.specs.declared.fault.TextFault.{TextFault}
+use Rattle.table_text.specs.declared.fault.TextKind.{TextKind}
+use Rattle.table_text.specs.declared.fault.TextKind.TheVariants.{NotText, Unexpected, NumberTooWide, NameTooLong, TooDeep, TooMany, NotBuilt}
+
+-- words of the language that aren't read yet
+abbrev pub unbuilt_words : List (List ℕ)
+unbuilt_words = codes "channel" ∷ codes "boundary" ∷ codes "virtual" ∷ codes "push" ∷ codes "pull" ∷ codes "x" ∷ []
+
+-- what is wrong with a token wherever it stands
+abbrev pub own_fault : Token → Option TextKind
+own_fault (name w) = None
+own_fault (reserved w) = if list_any (bytes_eq w) unbuilt_words then Some NotBuilt else None
+own_fault (number n) = None
+own_fault (mark b) = None
+own_fault (wrong kind) = Some kind
+
+abbrev pub is_mark_of : ℕ → Token → Bool
+is_mark_of b (name w) = false
+is_mark_of b (reserved w) = false
+is_mark_of b (number n) = false
+is_mark_of b (mark c) = b == c
+is_mark_of b (wrong kind) = false
+
+-- the words with which declarations begin
+abbrev pub declaration_words : List (List ℕ)
+declaration_words = codes "table" ∷ codes "column" ∷ codes "zero" ∷ []
+
+abbrev pub begins_declaration : Token → Bool
+begins_declaration (name w) = false
+begins_declaration (reserved w) = list_any (bytes_eq w) declaration_words
+begins_declaration (number n) = false
+begins_declaration (mark b) = false
+begins_declaration (wrong kind) = false
+
+-- how many parentheses are open after these tokens
+abbrev pub open_after : List Token → ℕ
+open_after tokens = count_by (is_mark_of 40) tokens - count_by (is_mark_of 41) tokens
+
+-- how many declarations begin with these tokens
+abbrev pub begun_in : List Token → ℕ
+begun_in tokens = count_by begins_declaration tokens
+
+abbrev pub max_open : ℕ
+max_open = 32
+
+abbrev pub max_declarations : ℕ
+max_declarations = 65535
+
+-- a token that may stand after these
+pub record IsTaken (before : List Token) (token : Token) : Type 0 where
+  pub sound : own_fault token ≡ None
+  pub allowed : Begins (before ++ token ∷ [])
+  pub shallow : is_mark_of 40 token ≡ true → open_after before < max_open
+  pub few : begins_declaration token ≡ true → begun_in before < max_declarations
+
+-- what the grammar and its limits have against a token after these
+abbrev pub GrammarRefuses : List Token → Token → TextKind → Type 0
+GrammarRefuses before token Unexpected = ¬ Begins (before ++ token ∷ [])
+GrammarRefuses before token TooDeep = Begins (before ++ token ∷ []) × (is_mark_of 40 token ≡ true) × (max_open ≤ open_after before)
+GrammarRefuses before token TooMany = Begins (before ++ token ∷ []) × (begins_declaration token ≡ true) × (max_declarations ≤ begun_in before)
+GrammarRefuses before token NotText = ⊥
+GrammarRefuses before token NumberTooWide = ⊥
+GrammarRefuses before token NameTooLong = ⊥
+GrammarRefuses before token NotBuilt = ⊥
+
+-- a token's own fault comes before what the grammar has against it
+abbrev pub IsRefused : List Token → Token → TextKind → Type 0
+IsRefused before token kind = MatchOption (own_fault token) (GrammarRefuses before token kind) (λ own. kind ≡ own)
+
+-- the first tokens, n of them, may each stand after those before it
+abbrev pub AreTaken : List Token → ℕ → Type 0
+AreTaken tokens n = (k : ℕ) → k < n → MatchOption (slice_get tokens k) ⊥ (IsTaken (take k tokens))
+
+-- the fault of tokens whose text ends at a place: the first that is refused, or the end where the grammar wants more
+pub record IsTokenFault (all : List Spot) (end : ℕ) (fault : TextFault) : Type 0 where
+  pub at : ℕ
+  pub taken : AreTaken (map (λ s. s.token) all) at
+  pub is : MatchOption (slice_get all at)
+      ((at ≡ length all) × ((decls : List Decl) → ¬ IsFile (map (λ s. s.token) all) decls) × (fault.place ≡ end) × (fault.kind ≡ Unexpected))
+      (λ s. (fault.place ≡ s.place) × IsRefused (take at (map (λ s. s.token) all)) s.token fault.kind)
+
+-- a byte that no text has comes before all else
+abbrev pub IsFirstFault : List ℕ → TextFault → Type 0
+IsFirstFault text fault =
+    MatchOption (position (λ b. not (is_text b)) text) (IsTokenFault (spots text) (length text) fault) (λ place. (fault.place ≡ place) × (fault.kind ≡ NotText))
+
+-- a text of these declarations
+pub record IsTablesText (text : List ℕ) (decls : List Decl) : Type 0 where
+  pub bytes : position (λ b. not (is_text b)) text ≡ None
+  pub taken : AreTaken (map (λ s. s.token) (spots text)) (length (spots text))
+  pub file : IsFile (map (λ s. s.token) (spots text)) decls

@@ -1,0 +1,113 @@
+-- The grammar: its trees, the tokens that each spells, and the declarations that it means.
+use Rattle.std.specs.Prelude.{◌≡◌, ℕ, ◌≤◌, List, [], ◌∷◌, ◌++◌, map, slice_index_or, codes}
+use Rattle.std.specs.List.{flat_map}
+use Rattle.table_text.specs.Lexing.{Token, name, reserved, number, mark}
+use Rattle.table_text.specs.declared.expr.Expr.{Expr}
+use Rattle.table_text.specs.declared.expr.Expr.TheVariants as expr
+use Rattle.table_text.specs.declared.decl.Item.{Item}
+use Rattle.table_text.specs.declared.decl.Item.TheVariants as item
+use Rattle.table_text.specs.declared.decl.Decl.{Decl}
+use Rattle.table_text.specs.declared.decl.Decl.TheVariants as decl
+
+-- sum = product { "+" product }, product = atom { "*" atom }, atom = number | name | "(" sum ")"
+mutual
+  pub data Sum : Type 0 where
+    first_term : Product → Sum
+    plus : Sum → Product → Sum
+
+  pub data Product : Type 0 where
+    first_factor : Atom → Product
+    times : Product → Atom → Product
+
+  pub data Atom : Type 0 where
+    constant : ℕ → Atom
+    column : List ℕ → Atom
+    parens : Sum → Atom
+
+-- item = "column" name ":" type ";" | "zero" name ":" sum ";"
+pub data ItemTree : Type 0 where
+  column_item : List ℕ → (level : ℕ) → level ≤ 7 → ItemTree
+  zero_item : List ℕ → Sum → ItemTree
+
+-- table = "table" name "{" { item } "}"
+pub record TableTree : Type 0 where
+  pub name : List ℕ
+  pub items : List ItemTree
+
+-- file = { table }
+abbrev pub FileTree : Type 0
+FileTree = List TableTree
+
+-- ---- what a tree spells
+
+abbrev mutual
+  pub sum_tokens : Sum → List Token
+  sum_tokens (first_term p) = product_tokens p
+  sum_tokens (plus s p) = sum_tokens s ++ mark 43 ∷ product_tokens p
+
+  pub product_tokens : Product → List Token
+  product_tokens (first_factor a) = atom_tokens a
+  product_tokens (times p a) = product_tokens p ++ mark 42 ∷ atom_tokens a
+
+  pub atom_tokens : Atom → List Token
+  atom_tokens (constant n) = number n ∷ []
+  atom_tokens (column w) = name w ∷ []
+  atom_tokens (parens s) = mark 40 ∷ sum_tokens s ++ mark 41 ∷ []
+
+-- the types' words, by level
+abbrev pub type_words : List (List ℕ)
+type_words = codes "b1" ∷ codes "b2" ∷ codes "b4" ∷ codes "b8" ∷ codes "b16" ∷ codes "b32" ∷ codes "b64" ∷ codes "b128" ∷ []
+
+abbrev pub type_word : ℕ → List ℕ
+type_word level = slice_index_or type_words level []
+
+abbrev pub item_tokens : ItemTree → List Token
+item_tokens (column_item w level _) = reserved (codes "column") ∷ name w ∷ mark 58 ∷ name (type_word level) ∷ mark 59 ∷ []
+item_tokens (zero_item w s) = reserved (codes "zero") ∷ name w ∷ mark 58 ∷ sum_tokens s ++ mark 59 ∷ []
+
+abbrev pub table_tokens : TableTree → List Token
+table_tokens t = reserved (codes "table") ∷ name t.name ∷ mark 123 ∷ flat_map item_tokens t.items ++ mark 125 ∷ []
+
+abbrev pub file_tokens : FileTree → List Token
+file_tokens f = flat_map table_tokens f
+
+-- ---- what a tree means: a sum or a product of one part is that part
+
+abbrev pub sum_of : List Expr → Expr
+sum_of [] = expr.Sum []
+sum_of (e ∷ []) = e
+sum_of (e ∷ f ∷ es) = expr.Sum (e ∷ f ∷ es)
+
+abbrev pub product_of : List Expr → Expr
+product_of [] = expr.Product []
+product_of (e ∷ []) = e
+product_of (e ∷ f ∷ es) = expr.Product (e ∷ f ∷ es)
+
+abbrev mutual
+  pub terms : Sum → List Expr
+  terms (first_term p) = product_of (factors p) ∷ []
+  terms (plus s p) = terms s ++ product_of (factors p) ∷ []
+
+  pub factors : Product → List Expr
+  factors (first_factor a) = atom_expr a ∷ []
+  factors (times p a) = factors p ++ atom_expr a ∷ []
+
+  pub atom_expr : Atom → Expr
+  atom_expr (constant n) = expr.Number n
+  atom_expr (column w) = expr.Column w
+  atom_expr (parens s) = sum_of (terms s)
+
+abbrev pub item_of : ItemTree → Item
+item_of (column_item w level _) = item.Column w level 0
+item_of (zero_item w s) = item.Zero w (sum_of (terms s))
+
+abbrev pub table_of : TableTree → Decl
+table_of t = decl.Table t.name (map item_of t.items)
+
+-- tokens that a file spells, and its declarations
+abbrev pub IsFile : List Token → List Decl → Type 0
+IsFile tokens decls = (f : FileTree) × (file_tokens f ≡ tokens) × (map table_of f ≡ decls)
+
+-- tokens with which a file begins
+abbrev pub Begins : List Token → Type 0
+Begins tokens = (f : FileTree) × (more : List Token) × (file_tokens f ≡ tokens ++ more)

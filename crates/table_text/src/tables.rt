@@ -1,0 +1,44 @@
+//! A list of declarations that a text may have.
+
+ghost use Rattle.std.specs.Prelude.{◌≡◌};
+
+use crate::decl::{Decl, Decls};
+use std::marker::Model;
+
+/// Declarations in the order of their text.
+#[derive(Debug, Drop)]
+pub struct Tables {
+    decls: Decls,
+}
+
+impl Model for Tables {
+    ghost use Rattle.std.specs.Prelude.{List};
+    ghost use Rattle.table_text.specs.declared.decl.Decl.{Decl};
+    ghost use Rattle.std.specs.Coded.{codes};
+    ghost use Rattle.table_text.specs.contracts.expr.Expr as expr;
+
+    ghost Value = { List Decl };
+
+    ghost coded = { Prim.hlevel (codes, expr.the_row.coded) };
+
+    ghost use Rattle.std.specs.Prelude.{◌≤◌};
+    ghost use Rattle.table_text.specs.Valid.{LevelsFit, declarations};
+
+    ghost view = { λ t. t.decls };
+
+    ghost invariant = { λ t. LevelsFit t.decls × (declarations t.decls ≤ 65535) };
+}
+
+impl Tables {
+    ghost use Rattle.std.specs.Prelude.{◌≤◌};
+    ghost use Rattle.table_text.specs.Valid.{LevelsFit, declarations};
+
+    /// The declarations.
+    pub fn decls(&self) -> &[Decl]
+        ensures all { result.now ≡ self.now }
+        ensures levels { LevelsFit self.now }
+        ensures few { declarations self.now ≤ 65535 }
+    {
+        self.decls.as_slice()
+    }
+}
