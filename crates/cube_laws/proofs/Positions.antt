@@ -7,7 +7,7 @@ use Rattle.cube_laws.proofs.Weights.{sum_to-same}
 use Rattle.tower_laws.proofs.Field.{identity, from_one, field_terms}
 use Rattle.cube_laws.specs.Form.{Form, constant, variable, plus, times, value, moved}
 use Rattle.cube_laws.specs.SumClaim.{cube_sum, sum_at, round_at, row, AllLong}
-use Rattle.cube_laws.specs.Sums.{sum_to}
+use Rattle.cube_laws.specs.Sums.{sum_to, tabulate}
 use Rattle.cube_laws.proofs.Rounds.{cube_sum-same}
 
 abbrev pub folded : ℕ → List (List ℕ) → List (List ℕ)
@@ -95,32 +95,28 @@ sum_folded left r form fs prefix half k =
     cube_sum-same left (λ x. value form (map (λ f. extension f (r ∷ (prefix ++ x))) fs)) (λ x. value form (map (λ f. extension f (prefix ++ x)) (folded r fs))) (λ x. ap (value form) (extensions_folded r half (prefix ++ x) fs k))
 
 -- ---- a list's extension as a sum with eq: the list of a form's values
-abbrev pub values_of : ℕ → (ℕ → ℕ) → List ℕ
-values_of zero g = []
-values_of (suc n) g = g 0 ∷ values_of n (λ p. g (suc p))
-
 value-moved : (form : Form) (a : ℕ) (xs : List ℕ) → value (moved form) (a ∷ xs) ≡ value form xs
 value-moved (constant c) a xs = refl
 value-moved (variable k) a xs = refl
 value-moved (plus f g) a xs = let p = value-moved f a xs in let q = value-moved g a xs in cc
 value-moved (times f g) a xs = let p = value-moved f a xs in let q = value-moved g a xs in cc
 
-dot-values : (n : ℕ) (ts : List ℕ) (g : ℕ → ℕ) → length ts ≡ n → dot (values_of n g) ts ≡ sum_to n (λ p. mul (slice_index ts p) (g p))
-dot-values zero ts g h = refl
-dot-values (suc n) [] g h = absurd (omega arith)
-dot-values (suc n) (t ∷ ts) g h = cell (g 0) t _ _ (dot-values n ts (λ p. g (suc p)) (omega arith))
+dot-tabulate : (n : ℕ) (ts : List ℕ) (g : ℕ → ℕ) → length ts ≡ n → dot (tabulate n g) ts ≡ sum_to n (λ p. mul (slice_index ts p) (g p))
+dot-tabulate zero ts g h = refl
+dot-tabulate (suc n) [] g h = absurd (omega arith)
+dot-tabulate (suc n) (t ∷ ts) g h = cell (g 0) t _ _ (dot-tabulate n ts (λ p. g (suc p)) (omega arith))
   where
     cell : (a t u v : ℕ) → u ≡ v → bit_xor (mul a t) u ≡ bit_xor (mul t a) v
     cell a t u v h = from_one 1 h (identity (a ∷ t ∷ u ∷ v ∷ []) (search field_terms depth 60 fits 20000) refl)
 
 -- the extension at z of the list of a form's values, as a sum over the cube with eq
 pub zero_sum : (z : List ℕ) (form : Form) (fs : List (List ℕ)) → AllLong (2 ^ length z) fs
-    → sum_at (record { form = times (variable 0) (moved form); lists = weights z ∷ fs }) [] (length z) ≡ extension (values_of (2 ^ length z) (λ p. value form (row fs p))) z
+    → sum_at (record { form = times (variable 0) (moved form); lists = weights z ∷ fs }) [] (length z) ≡ extension (tabulate (2 ^ length z) (λ p. value form (row fs p))) z
 zero_sum z form fs h =
     cube_sum_is (length z) (times (variable 0) (moved form)) (weights z ∷ fs) (length-weights z, h)
     ∙ sum_to-same (2 ^ length z) (λ p. value (times (variable 0) (moved form)) (row (weights z ∷ fs) p)) (λ p. mul (slice_index (weights z) p) (value form (row fs p)))
     (λ p l. ap (mul (slice_index (weights z) p)) (value-moved form (slice_index (weights z) p) (row fs p)))
-    ∙ sym (dot-values (2 ^ length z) (weights z) (λ p. value form (row fs p)) (length-weights z))
+    ∙ sym (dot-tabulate (2 ^ length z) (weights z) (λ p. value form (row fs p)) (length-weights z))
 
 last_step : (a b u v : ℕ) → u ≡ bit_xor b v → bit_xor a u ≡ bit_xor b (bit_xor a v)
 last_step a b u v h = from_one 1 h (identity (a ∷ b ∷ u ∷ v ∷ []) (search field_terms depth 60 fits 20000) refl)

@@ -1,9 +1,9 @@
--- The extension as a sum over positions.
-use Rattle.std.proofs.Common.{◌≡◌, ℕ, zero, suc, ◌+◌, ◌*◌, ◌/◌, ◌%◌, ◌^◌, ◌<◌, List, [], ◌∷◌, length, get_or, bit_xor, refl, sym, ◌∙◌, ap, arith}
+-- Sums and lists over an index, and the extension as a sum over positions.
+use Rattle.std.proofs.Common.{◌≡◌, ℕ, zero, suc, ◌+◌, ◌*◌, ◌/◌, ◌%◌, ◌^◌, ◌<◌, List, [], ◌∷◌, length, get_or, bit_xor, refl, sym, ◌∙◌, ap, arith, ◌++◌}
 use Rattle.std.proofs.lemmas.Nat.Bits.{bit_at_lowest, bit_at-suc}
 use Rattle.tower_laws.specs.Tower.{mul}
 use Rattle.tower_laws.proofs.Field.{identity, field_terms}
-use Rattle.cube_laws.specs.Sums.{sum_to, product_to}
+use Rattle.cube_laws.specs.Sums.{sum_to, product_to, tabulate}
 use Rattle.cube_laws.specs.Extension.{dot, spread, weights, extension, bit, eq, extension_sum}
 use Rattle.cube_laws.proofs.Folding.{length-weights}
 
@@ -55,3 +55,18 @@ pub extension_is_sum : (z table : List ℕ) → length table ≡ 2 ^ length z �
 extension_is_sum z table h =
     dot_sum (2 ^ length z) table (weights z) h (length-weights z)
     ∙ sum_to-same (2 ^ length z) (λ p. mul (get_or table p 0) (get_or (weights z) p 0)) (λ p. mul (get_or table p 0) (eq (length z) z p)) (λ p l. ap (mul (get_or table p 0)) (weights_at z p l))
+
+pub tabulate-same : (n : ℕ) (f g : ℕ → ℕ) → ((k : ℕ) → k < n → f k ≡ g k) → tabulate n f ≡ tabulate n g
+tabulate-same zero f g h = refl
+tabulate-same (suc n) f g h = let e = h 0 (omega arith) in let r = tabulate-same n (λ k. f (suc k)) (λ k. g (suc k)) (λ k l. h (suc k) (omega arith)) in cc
+
+pub tabulate-add : (m n : ℕ) (f : ℕ → ℕ) → tabulate (m + n) f ≡ tabulate m f ++ tabulate n (λ k. f (m + k))
+tabulate-add zero n f = let e : 0 + n ≡ n = omega arith in ap (λ w. tabulate w f) e ∙ tabulate-same n f (λ k. f (0 + k)) (λ k l. let z : k ≡ 0 + k = omega arith in ap f z)
+tabulate-add (suc m) n f =
+    let e : suc m + n ≡ suc (m + n) = omega arith in
+    ap (λ w. tabulate w f) e
+    ∙ ap (λ l. f 0 ∷ l) (tabulate-add m n (λ k. f (suc k)) ∙ ap (λ l. tabulate m (λ k. f (suc k)) ++ l) (tabulate-same n (λ k. f (suc (m + k))) (λ k. f (suc m + k)) (λ k l. let z : suc (m + k) ≡ suc m + k = omega arith in ap f z)))
+
+pub length-tabulate : (n : ℕ) (f : ℕ → ℕ) → length (tabulate n f) ≡ n
+length-tabulate zero f = refl
+length-tabulate (suc n) f = ap suc (length-tabulate n (λ k. f (suc k)))
