@@ -2,3 +2,4 @@ pub mod Carried
 pub mod Powers
 pub mod Narrow
 pub mod LevelsNest
+pub mod InverseTable

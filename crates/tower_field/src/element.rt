@@ -1,7 +1,8 @@
 //! What the eight types share.
 
 ghost use Rattle.std.specs.Prelude.{◌≡◌, ◌==◌, ◌↔◌, ℕ, ◌^◌, ◌≤◌, bit_xor, Bool, IfSome, IsNone};
-ghost use Rattle.tower_laws.specs.Tower.{Fits, mul};
+ghost use Rattle.tower_laws.specs.Inverse.{inverse};
+ghost use Rattle.tower_laws.specs.Tower.{Fits, generator, mul};
 ghost use Rattle.tower_laws.specs.Halves.{AreHalves, high_half, joined, low_half};
 
 /// The elements of one level of the tower.
@@ -30,6 +31,20 @@ pub trait Tower: Copy + Eq {
 
     fn mul(self, other: Self) -> Self
         ensures product { number result ≡ mul (number self) (number other) }
+        ensures fits { Fits LEVEL (number result) };
+
+    fn square(self) -> Self
+        ensures square { number result ≡ mul (number self) (number self) }
+        ensures fits { Fits LEVEL (number result) };
+
+    /// The inverse of an element that is not zero.
+    fn inverse(self) -> Option<Self>
+        ensures inverse { IfSome result (λ element. number element ≡ inverse (number self)) }
+        ensures zero { IsNone result ↔ (number self ≡ 0) };
+
+    /// The product with the last generator of the level.
+    fn mul_gen(self) -> Self
+        ensures product { number result ≡ mul (number self) (generator LEVEL) }
         ensures fits { Fits LEVEL (number result) };
 
     /// The numbers of the low half and of the high half. A bit is its own low half.

@@ -1,6 +1,6 @@
 //! Elements as the same numbers at other levels.
 
-ghost use Rattle.std.specs.Prelude.{◌≡◌, ℕ, ◌≤◌};
+ghost use Rattle.std.specs.Prelude.{◌≡◌, ◌↔◌, ℕ, ◌^◌, ◌≤◌, IfSome, IsNone};
 
 use crate::element::Tower;
 
@@ -14,4 +14,12 @@ pub fn lift<F: Tower, K: Tower>(a: F) -> K
         Some(element) => element,
         None => unreachable!(),
     }
+}
+
+/// The element of the level of `K` with the same number, if that level has it.
+pub fn lower<F: Tower, K: Tower>(a: F) -> Option<K>
+    ensures some { IfSome result (λ element. K.number element ≡ F.number a) }
+    ensures none { IsNone result ↔ (2 ^ (2 ^ K.LEVEL) ≤ F.number a) }
+{
+    K::from_number(a.number())
 }

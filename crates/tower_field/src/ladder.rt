@@ -1,9 +1,10 @@
 //! Products by halves, three for each, from bytes up.
 
 ghost use Rattle.std.specs.Prelude.{◌≡◌, ℕ, suc, ◌+◌, ◌*◌, ◌/◌, ◌%◌, ◌^◌, ◌<◌, bit_xor};
+ghost use Rattle.tower_laws.specs.Inverse.{inverse};
 ghost use Rattle.tower_laws.specs.Tower.{generator, high, join, low, mul};
 
-use crate::byte::{carried8, product8};
+use crate::byte::{carried8, inverse8, product8};
 use crate::halves::{
     high16, high32, high64, high128, joined16, joined32, joined64, joined128, low16, low32, low64,
     low128,
@@ -24,6 +25,13 @@ pub trait Level: Copy {
     /// The product with the level's last generator.
     fn carried(self) -> Self
         ensures { number result ≡ mul (number self) (generator LEVEL) };
+
+    fn squared(self) -> Self
+        ensures { number result ≡ mul (number self) (number self) };
+
+    /// The inverse, and 0 of 0.
+    fn inverted(self) -> Self
+        ensures { number result ≡ inverse (number self) };
 }
 
 /// An element as two halves, elements of the level below.
@@ -71,6 +79,31 @@ fn product_by_halves<F: Halves>(a: F, b: F) -> F
     )
 }
 
+/// The square from those of the halves.
+#[inline(always)]
+fn square_by_halves<F: Halves>(a: F) -> F
+    ensures { F.whole result ≡ mul (F.whole a) (F.whole a) }
+{
+    let low = a.low();
+    let high = a.high();
+    let lows = low.squared();
+    let highs = high.squared();
+    F::joined(highs.carried(), lows.plus(highs))
+}
+
+/// The inverse from that of the norm, an element of the level below.
+#[inline(always)]
+fn inverse_by_halves<F: Halves>(a: F) -> F
+    ensures { F.whole result ≡ inverse (F.whole a) }
+{
+    let low = a.low();
+    let high = a.high();
+    let carried = low.plus(high.carried());
+    let norm = low.times(carried).plus(high.squared());
+    let inverse = norm.inverted();
+    F::joined(inverse.times(high), inverse.times(carried))
+}
+
 impl Level for u8 {
     ghost LEVEL = { 3 };
 
@@ -86,6 +119,14 @@ impl Level for u8 {
 
     fn carried(self) -> u8 {
         carried8(self)
+    }
+
+    fn squared(self) -> u8 {
+        product8(self, self)
+    }
+
+    fn inverted(self) -> u8 {
+        inverse8(self)
     }
 }
 
@@ -123,6 +164,14 @@ impl Level for u16 {
     fn carried(self) -> u16 {
         carried_by_halves(self)
     }
+
+    fn squared(self) -> u16 {
+        square_by_halves(self)
+    }
+
+    fn inverted(self) -> u16 {
+        inverse_by_halves(self)
+    }
 }
 
 impl Halves for u32 {
@@ -158,6 +207,14 @@ impl Level for u32 {
 
     fn carried(self) -> u32 {
         carried_by_halves(self)
+    }
+
+    fn squared(self) -> u32 {
+        square_by_halves(self)
+    }
+
+    fn inverted(self) -> u32 {
+        inverse_by_halves(self)
     }
 }
 
@@ -195,6 +252,14 @@ impl Level for u64 {
     fn carried(self) -> u64 {
         carried_by_halves(self)
     }
+
+    fn squared(self) -> u64 {
+        square_by_halves(self)
+    }
+
+    fn inverted(self) -> u64 {
+        inverse_by_halves(self)
+    }
 }
 
 impl Halves for u128 {
@@ -230,5 +295,13 @@ impl Level for u128 {
 
     fn carried(self) -> u128 {
         carried_by_halves(self)
+    }
+
+    fn squared(self) -> u128 {
+        square_by_halves(self)
+    }
+
+    fn inverted(self) -> u128 {
+        inverse_by_halves(self)
     }
 }

@@ -59,6 +59,23 @@ impl Tower for B1 {
         }
     }
 
+    fn square(self) -> B1 {
+        self.mul(self)
+    }
+
+    fn inverse(self) -> Option<B1> {
+        if self.bits == 0 {
+            None
+        } else {
+            Some(self)
+        }
+    }
+
+    #[tactic(auto, unfolding(tower_laws::specs::Tower::generator))]
+    fn mul_gen(self) -> B1 {
+        self.mul(B1 { bits: 1 })
+    }
+
     fn split(self) -> (u128, u128) {
         (self.bits as u128, 0)
     }

@@ -61,6 +61,24 @@ impl Tower for B2 {
         }
     }
 
+    fn square(self) -> B2 {
+        self.mul(self)
+    }
+
+    fn inverse(self) -> Option<B2> {
+        if self.bits == 0 {
+            return None;
+        }
+        Some(B2 {
+            bits: self.bits.inverted(),
+        })
+    }
+
+    #[tactic(auto, unfolding(tower_laws::specs::Tower::generator))]
+    fn mul_gen(self) -> B2 {
+        self.mul(B2 { bits: 2 })
+    }
+
     fn split(self) -> (u128, u128) {
         (low2(self.bits) as u128, high2(self.bits) as u128)
     }

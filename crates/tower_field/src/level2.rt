@@ -61,6 +61,24 @@ impl Tower for B4 {
         }
     }
 
+    fn square(self) -> B4 {
+        self.mul(self)
+    }
+
+    fn inverse(self) -> Option<B4> {
+        if self.bits == 0 {
+            return None;
+        }
+        Some(B4 {
+            bits: self.bits.inverted(),
+        })
+    }
+
+    #[tactic(auto, unfolding(tower_laws::specs::Tower::generator))]
+    fn mul_gen(self) -> B4 {
+        self.mul(B4 { bits: 4 })
+    }
+
     fn split(self) -> (u128, u128) {
         (low4(self.bits) as u128, high4(self.bits) as u128)
     }

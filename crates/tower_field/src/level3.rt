@@ -59,6 +59,27 @@ impl Tower for B8 {
         }
     }
 
+    fn square(self) -> B8 {
+        B8 {
+            bits: self.bits.squared(),
+        }
+    }
+
+    fn inverse(self) -> Option<B8> {
+        if self.bits == 0 {
+            return None;
+        }
+        Some(B8 {
+            bits: self.bits.inverted(),
+        })
+    }
+
+    fn mul_gen(self) -> B8 {
+        B8 {
+            bits: self.bits.carried(),
+        }
+    }
+
     fn split(self) -> (u128, u128) {
         (low8(self.bits) as u128, high8(self.bits) as u128)
     }

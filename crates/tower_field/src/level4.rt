@@ -59,6 +59,27 @@ impl Tower for B16 {
         }
     }
 
+    fn square(self) -> B16 {
+        B16 {
+            bits: self.bits.squared(),
+        }
+    }
+
+    fn inverse(self) -> Option<B16> {
+        if self.bits == 0 {
+            return None;
+        }
+        Some(B16 {
+            bits: self.bits.inverted(),
+        })
+    }
+
+    fn mul_gen(self) -> B16 {
+        B16 {
+            bits: self.bits.carried(),
+        }
+    }
+
     fn split(self) -> (u128, u128) {
         (low16(self.bits) as u128, high16(self.bits) as u128)
     }

@@ -59,6 +59,27 @@ impl Tower for B32 {
         }
     }
 
+    fn square(self) -> B32 {
+        B32 {
+            bits: self.bits.squared(),
+        }
+    }
+
+    fn inverse(self) -> Option<B32> {
+        if self.bits == 0 {
+            return None;
+        }
+        Some(B32 {
+            bits: self.bits.inverted(),
+        })
+    }
+
+    fn mul_gen(self) -> B32 {
+        B32 {
+            bits: self.bits.carried(),
+        }
+    }
+
     fn split(self) -> (u128, u128) {
         (low32(self.bits) as u128, high32(self.bits) as u128)
     }

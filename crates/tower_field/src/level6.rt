@@ -59,6 +59,27 @@ impl Tower for B64 {
         }
     }
 
+    fn square(self) -> B64 {
+        B64 {
+            bits: self.bits.squared(),
+        }
+    }
+
+    fn inverse(self) -> Option<B64> {
+        if self.bits == 0 {
+            return None;
+        }
+        Some(B64 {
+            bits: self.bits.inverted(),
+        })
+    }
+
+    fn mul_gen(self) -> B64 {
+        B64 {
+            bits: self.bits.carried(),
+        }
+    }
+
     fn split(self) -> (u128, u128) {
         (low64(self.bits) as u128, high64(self.bits) as u128)
     }

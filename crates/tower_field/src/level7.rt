@@ -1,12 +1,15 @@
 //! Level 7.
 
-ghost use Rattle.std.specs.Prelude.{◌≡◌, ℕ, refl};
+ghost use Rattle.std.specs.Prelude.{◌≡◌, ℕ, bit_xor, refl};
+ghost use Rattle.std.specs.Int.{from_le_bytes, to_le_bytes, w128};
+ghost use Rattle.tower_laws.specs.Tower.{mul};
 ghost use Rattle.std.proofs.Common.{arith, lit≤};
 
 use crate::element::Tower;
 use crate::halves::{high128, joined128, low128};
 use crate::ladder::Level;
 use std::marker::Model;
+use std::ops::{Add, Mul};
 
 /// An element of 128 bits. A contract sees its number.
 #[derive(Clone, Copy, PartialEq, Eq, PartialOrd, Ord, Hash, Debug, Default)]
@@ -59,6 +62,27 @@ impl Tower for B128 {
         }
     }
 
+    fn square(self) -> B128 {
+        B128 {
+            bits: self.bits.squared(),
+        }
+    }
+
+    fn inverse(self) -> Option<B128> {
+        if self.bits == 0 {
+            return None;
+        }
+        Some(B128 {
+            bits: self.bits.inverted(),
+        })
+    }
+
+    fn mul_gen(self) -> B128 {
+        B128 {
+            bits: self.bits.carried(),
+        }
+    }
+
     fn split(self) -> (u128, u128) {
         (low128(self.bits) as u128, high128(self.bits) as u128)
     }
@@ -75,5 +99,47 @@ impl Tower for B128 {
 
     fn from_number(n: u128) -> Option<B128> {
         Some(B128 { bits: n })
+    }
+}
+
+impl B128 {
+    /// The bytes of the number, the lowest first.
+    pub fn to_bytes(self) -> [u8; 16]
+        ensures { result ≡ to_le_bytes w128 self }
+    {
+        self.bits.to_le_bytes()
+    }
+
+    /// The element whose number has these bytes, the lowest first.
+    pub fn from_bytes(bytes: [u8; 16]) -> B128
+        ensures { result ≡ from_le_bytes w128 bytes }
+    {
+        B128 {
+            bits: u128::from_le_bytes(bytes),
+        }
+    }
+}
+
+impl Add for B128 {
+    type Output = B128;
+
+    ghost add_gives = { λ a b sum. sum ≡ bit_xor a b };
+
+    fn add(self, other: B128) -> B128 {
+        B128 {
+            bits: self.bits ^ other.bits,
+        }
+    }
+}
+
+impl Mul for B128 {
+    type Output = B128;
+
+    ghost mul_gives = { λ a b product. product ≡ mul a b };
+
+    fn mul(self, other: B128) -> B128 {
+        B128 {
+            bits: self.bits.times(other.bits),
+        }
     }
 }

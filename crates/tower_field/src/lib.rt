@@ -15,9 +15,10 @@ mod level4;
 mod level5;
 mod level6;
 mod level7;
+mod values;
 
 pub use element::Tower;
-pub use embedding::lift;
+pub use embedding::{lift, lower};
 pub use level0::B1;
 pub use level1::B2;
 pub use level2::B4;
@@ -26,3 +27,7 @@ pub use level4::B16;
 pub use level5::B32;
 pub use level6::B64;
 pub use level7::B128;
+pub use values::{NoMemory, Values};
+
+#[cfg(test)]
+mod tests;

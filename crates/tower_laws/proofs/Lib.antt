@@ -3,4 +3,5 @@ pub mod Levels
 pub mod Field
 pub mod Rules
 pub mod Roots
+pub mod Inverses
 pub mod Halves

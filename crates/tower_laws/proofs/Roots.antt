@@ -38,7 +38,7 @@ gen_square i =
     ∙ sym (xor_shifted (generator i) (2 ^ i) 1 (one_lt_size i)) ∙ ap (λ w. bit_xor w 1) (sym (mul_gen i (generator i) (generator_lt i))) ∙ xor_comm (mul (generator i) (2 ^ (2 ^ i))) 1
   where
     halves : product (suc i) (2 ^ (2 ^ i)) (2 ^ (2 ^ i)) ≡ generator i * 2 ^ (2 ^ i) + 1
-    halves = rw (product-suc i (2 ^ (2 ^ i)) (2 ^ (2 ^ i)), low_gen i, high_gen i) (simp (product_zero, product_zero_r, one_one, product_one i (generator i) (generator_lt i), xor_zero_r, xor_zero_l))
+    halves = rw (product-suc i (2 ^ (2 ^ i)) (2 ^ (2 ^ i)), low_gen i, high_gen i) (simp (product_zero, product_zero_r, one_one, product_one i (generator i) (generator_lt i), xor_zero_l))
 
 -- an element of level i + 1 by its halves
 pub split : (i y : ℕ) → y < 2 ^ (2 ^ suc i) → y ≡ bit_xor (low i y) (mul (high i y) (2 ^ (2 ^ i)))

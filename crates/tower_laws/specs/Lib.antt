@@ -1,3 +1,4 @@
 pub mod Tower
 pub mod Halves
+pub mod Inverse
 pub mod FieldLaws

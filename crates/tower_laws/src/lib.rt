@@ -5,14 +5,19 @@
 
 #![tactic(auto)]
 
-ghost use Rattle.tower_laws.specs.FieldLaws.{HasLevels, IsRing};
+ghost use Rattle.tower_laws.specs.FieldLaws.{AreFields, HaveNoRoots, IsField};
 
-/// Sum and product of numbers are those of a commutative ring.
-pub fn numbers_are_a_ring()
-    ensures { IsRing }
+/// Sum and product of numbers are those of a field of characteristic 2.
+pub fn numbers_are_a_field()
+    ensures { IsField }
 {}
 
-/// Each level is a ring of its own, with the same sum and product.
-pub fn levels_are_rings()
-    ensures { HasLevels }
+/// Each level is a field, with the sum, product and inverse of all numbers.
+pub fn levels_are_fields()
+    ensures { AreFields }
+{}
+
+/// The two quadratic equations over the last generator of a level have no root there.
+pub fn generators_have_no_roots()
+    ensures { HaveNoRoots }
 {}

@@ -1,0 +1,24 @@
+//! Counting, and lists as multisets.
+//!
+//! The definitions stand in `specs/`, the lemmas in `proofs/`. A function here does nothing: its
+//! clause is a law over the definitions alone.
+
+#![tactic(auto)]
+
+ghost use Rattle.counting_laws.specs.Laws.{CountsAdd, SameNumbers, SameProducts, SameTuples};
+
+/// Bounds on how many numbers pass two tests add up.
+pub fn counts_add()
+    ensures { CountsAdd }
+{}
+
+/// Lists are equal as multisets exactly where one is the other in another order.
+pub fn equal_multisets_are_permutations()
+    ensures numbers { SameNumbers }
+    ensures tuples { SameTuples }
+{}
+
+/// Equal multisets have equal products.
+pub fn equal_multisets_have_equal_products()
+    ensures { SameProducts }
+{}

@@ -1,0 +1,57 @@
+-- Multilinear extensions of tables of values, the lowest variable first.
+use Rattle.std.specs.Prelude.{ℕ, zero, suc, ◌/◌, ◌%◌, ◌^◌, List, [], ◌∷◌, get_or, bit_xor}
+use Rattle.tower_laws.specs.Tower.{mul}
+use Rattle.cube_laws.specs.Sums.{sum_to, product_to}
+
+-- the sum of the products of the numbers at one place
+abbrev pub dot : List ℕ → List ℕ → ℕ
+dot [] ys = 0
+dot (x ∷ xs) [] = 0
+dot (x ∷ xs) (y ∷ ys) = bit_xor (mul x y) (dot xs ys)
+
+-- bit k of p
+abbrev pub bit : ℕ → ℕ → ℕ
+bit p k = p / 2 ^ k % 2
+
+-- of the corner whose coordinates are the m low bits of p, and a point z: the product of z_k · p_k + (1 + z_k) · (1 + p_k)
+abbrev pub eq : ℕ → List ℕ → ℕ → ℕ
+eq m z p = product_to m (λ k. bit_xor (mul (get_or z k 0) (bit p k)) (mul (bit_xor 1 (get_or z k 0)) (bit_xor 1 (bit p k))))
+
+-- the sum over all positions p of the table of its value there times eq of p and the point
+abbrev pub extension_sum : ℕ → List ℕ → List ℕ → ℕ
+extension_sum m table z = sum_to (2 ^ m) (λ p. mul (get_or table p 0) (eq m z p))
+
+-- each weight t as the weights t · (1 + x) and t · x of its two places
+abbrev pub spread : ℕ → List ℕ → List ℕ
+spread x [] = []
+spread x (t ∷ ts) = mul t (bit_xor 1 x) ∷ mul t x ∷ spread x ts
+
+-- eq of each position and a point
+abbrev pub weights : List ℕ → List ℕ
+weights [] = 1 ∷ []
+weights (x ∷ xs) = spread x (weights xs)
+
+-- the extension of a table at a point, which is `extension_sum` where the table has 2 ^ m values
+abbrev pub extension : List ℕ → List ℕ → ℕ
+extension table point = dot table (weights point)
+
+-- the table with its lowest variable set to x
+abbrev pub fold_low : ℕ → List ℕ → List ℕ
+fold_low x [] = []
+fold_low x (a ∷ []) = a ∷ []
+fold_low x (a ∷ b ∷ table) = bit_xor a (mul x (bit_xor a b)) ∷ fold_low x table
+
+-- the table with its lowest variables set to the numbers of a list
+abbrev pub fold_all : List ℕ → List ℕ → List ℕ
+fold_all [] table = table
+fold_all (r ∷ rs) table = fold_all rs (fold_low r table)
+
+-- the n low bits of k, the lowest first
+abbrev pub bits_of : ℕ → ℕ → List ℕ
+bits_of zero k = []
+bits_of (suc n) k = k % 2 ∷ bits_of n (k / 2)
+
+-- the sum of a table
+abbrev pub sum_all : List ℕ → ℕ
+sum_all [] = 0
+sum_all (a ∷ table) = bit_xor a (sum_all table)

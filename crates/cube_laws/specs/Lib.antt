@@ -1,0 +1,5 @@
+pub mod Sums
+pub mod Extension
+pub mod Form
+pub mod SumClaim
+pub mod Laws

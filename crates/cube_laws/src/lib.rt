@@ -1,0 +1,30 @@
+//! Tables over cubes: extensions, sums and rounds.
+//!
+//! The definitions stand in `specs/`, the lemmas in `proofs/`. A function here does nothing: its
+//! clause is a law over the definitions alone.
+
+#![tactic(auto)]
+
+ghost use Rattle.cube_laws.specs.Laws.{AreRounds, CubeSumIsSum, ExtensionAtCorners, ExtensionIsSum, ExtensionOfFold, FoldsDiffer};
+
+/// What the extension of a table is.
+pub fn extensions()
+    ensures sum { ExtensionIsSum }
+    ensures corners { ExtensionAtCorners }
+    ensures fold { ExtensionOfFold }
+{}
+
+/// Lists that differ still differ after all but one value of their lowest variable.
+pub fn folds_differ()
+    ensures { FoldsDiffer }
+{}
+
+/// Sums over cubes of forms of extensions are sums over positions.
+pub fn cube_sums()
+    ensures { CubeSumIsSum }
+{}
+
+/// The rounds by which a sum over a cube is checked, one variable at a time.
+pub fn rounds_are_counted()
+    ensures { AreRounds }
+{}

@@ -1,0 +1,3 @@
+pub mod ProductBound
+pub mod CollapseBound
+pub mod Leaves

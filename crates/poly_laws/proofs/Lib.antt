@@ -1,0 +1,4 @@
+pub mod RootBound
+pub mod Polynomials
+pub mod Interpolating
+pub mod Products

@@ -1,0 +1,22 @@
+-- The laws of polynomials, as statements.
+use Rattle.std.specs.Prelude.{◌≡◌, ◌<◌, ◌+◌, ◌-◌, ℕ, List, length, slice_index, bit_xor}
+use Rattle.std.specs.List.{AllByRecursion}
+use Rattle.tower_laws.specs.Tower.{mul}
+use Rattle.counting_laws.specs.Counting.{AtMost}
+use Rattle.poly_laws.specs.Polynomial.{horner, Polynomial}
+use Rattle.poly_laws.specs.Interpolation.{at}
+
+-- a polynomial has fewer roots than coefficients, unless all its coefficients are 0
+abbrev pub RootsAreFew : Type 0
+RootsAreFew = (cs : List ℕ) → ¬ AllByRecursion (λ c. c ≡ 0) cs → AtMost (length cs - 1) (λ x. horner cs x ≡ 0)
+
+-- degrees of sums and products
+pub record HaveDegrees : Type 0 where
+  pub sum : (d : ℕ) (f g : ℕ → ℕ) → Polynomial d f → Polynomial d g → Polynomial d (λ x. bit_xor (f x) (g x))
+  pub product : (d e : ℕ) (f g : ℕ → ℕ) → Polynomial d f → Polynomial e g → Polynomial (d + e) (λ x. mul (f x) (g x))
+
+-- `at` is the one polynomial of its degree through the values
+pub record IsInterpolation : Type 0 where
+  pub through : (values : List ℕ) (k : ℕ) → k < length values → at values k ≡ slice_index values k
+  pub degree : (values : List ℕ) → 0 < length values → Polynomial (length values - 1) (at values)
+  pub only : (d : ℕ) (f : ℕ → ℕ) (values : List ℕ) → length values ≡ d + 1 → Polynomial d f → ((k : ℕ) → k < length values → slice_index values k ≡ f k) → (x : ℕ) → at values x ≡ f x

@@ -1,0 +1,3 @@
+pub mod Polynomial
+pub mod Interpolation
+pub mod Laws

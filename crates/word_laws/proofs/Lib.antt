@@ -1,0 +1,4 @@
+pub mod Vanishing
+pub mod Words
+pub mod WordSums
+pub mod Butterflies

@@ -1,0 +1,3 @@
+pub mod CodeWord
+pub mod Encoding
+pub mod Laws

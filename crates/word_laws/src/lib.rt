@@ -1,0 +1,25 @@
+//! Code words of tables, their folds, and the transform that makes them.
+//!
+//! The definitions stand in `specs/`, the lemmas in `proofs/`. A function here does nothing: its
+//! clause is a law over the definitions alone.
+
+#![tactic(auto)]
+
+ghost use Rattle.word_laws.specs.Laws.{AreVanishing, EncodeIsWord, FoldOfWord, LastWord, WordIsSum};
+
+/// The polynomials that vanish below a power of 2.
+pub fn vanishing_polynomials()
+    ensures { AreVanishing }
+{}
+
+/// Words, and what a fold makes of them.
+pub fn word_folds()
+    ensures sum { WordIsSum }
+    ensures fold { FoldOfWord }
+    ensures last { LastWord }
+{}
+
+/// The transform by butterflies gives the word.
+pub fn transform()
+    ensures { EncodeIsWord }
+{}
