@@ -4,5 +4,6 @@
 pub mod judge;
 pub mod resolve;
 pub mod shape;
+pub mod size;
 pub mod store;
 pub mod witness;

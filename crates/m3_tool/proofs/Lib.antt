@@ -1,0 +1,2 @@
+pub mod CeilLog
+pub mod Bits
