@@ -1,2 +1,4 @@
 pub mod CeilLog
 pub mod Bits
+pub mod ByteDigits
+pub mod ColumnValues
