@@ -1,7 +1,7 @@
 -- How many bits columns and tables take, summed from the first on.
 use Rattle.std.proofs.Common.{◌≡◌, ℕ, ◌+◌, ◌*◌, ◌%◌, ◌^◌, ◌<◌, ◌≤◌, List, [], ◌∷◌, length, drop, get_or, refl, sym, ap, subst, ◌∙◌, arith, lit≤}
 use Rattle.std.proofs.lemmas.List.{drop_more, drop_all}
-use Rattle.std.proofs.lemmas.Nat.{one_shl}
+use Rattle.std.proofs.lemmas.Nat.{one_shl, shl_whole, mul-le}
 use Rattle.std.proofs.Math.Nat.{pow-le-pow_right}
 use Rattle.m3_tool.specs.declared.shape.ColumnShape.{ColumnShape}
 use Rattle.m3_tool.specs.declared.shape.TableShape.{TableShape}
@@ -21,6 +21,10 @@ power_bound k n h = pow-le-pow_right {n = 2} (omega arith) {i = k} {j = n} h
 -- a shift that stays within 64 bits
 pub shift_is : (log v l : ℕ) → log ≤ 20 → v ≤ 7 → l ≤ 7 → (1 * 2 ^ (log + v + l) % 2 ^ 64 ≡ 2 ^ (log + v + l)) × (2 ^ (log + v + l) ≤ 2 ^ 34)
 shift_is log v l a b c = (one_shl (log + v + l) 64 (omega arith), power_bound (log + v + l) 34 (omega arith))
+
+pub rows_shift_is : (r rows v l : ℕ) → r ≡ rows → rows ≤ 1048576 → v ≤ 7 → l ≤ 7 → (r * 2 ^ (v + l) % 2 ^ 64 ≡ rows * 2 ^ (v + l)) × (rows * 2 ^ (v + l) ≤ 2 ^ 34)
+rows_shift_is r rows v l e few a b =
+    (ap (λ x. x * 2 ^ (v + l) % 2 ^ 64) e ∙ shl_whole rows 21 (v + l) 64 (omega arith) (omega arith), omega (arith, mul-le rows (2 ^ (v + l)) (2 ^ 20) (2 ^ 14) (omega arith) (power_bound (v + l) 14 (omega arith))))
 
 -- ---- columns
 

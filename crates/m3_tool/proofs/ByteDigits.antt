@@ -22,7 +22,7 @@ digit_within b (suc n) x (suc p) h =
     digit_within b n (x / b) p (omega arith)
     ∙ ap (λ y. y % b) (div-div-eq-div-mul x b (b ^ p) ∙ ap (λ y. x / y) (mul_comm b (b ^ p) ∙ sym (pow-suc b p)))
 
-no_digit : (b n x p : ℕ) → 0 < b → x < b ^ n → n ≤ p → x / b ^ p % b ≡ 0
+pub no_digit : (b n x p : ℕ) → 0 < b → x < b ^ n → n ≤ p → x / b ^ p % b ≡ 0
 no_digit b n x p pos lt le =
     let mono = pow-le-pow_right {n = b} pos {i = n} {j = p} le in
     ap (λ y. y % b) (div-eq_of_lt {n = x} {m = b ^ p} (omega arith)) ∙ zero-mod b

@@ -7,3 +7,4 @@ pub mod Filling
 pub mod Satisfies
 pub mod Witness
 pub mod Stored
+pub mod Gives

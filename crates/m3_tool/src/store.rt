@@ -38,6 +38,17 @@ impl Model for Store {
 }
 
 impl Store {
+    ghost use Rattle.m3_tool.specs.Stored.{IsStored};
+    ghost use Rattle.m3_tool.specs.Witness.{filling_of};
+
+    /// The store of columns with these bytes.
+    pub(crate) fn of(shape: Shape, rows: Items<u32>, bytes: Items<Items<Items<u8>>>) -> Store
+        requires { IsStored shape rows bytes }
+        ensures { result ≡ record { tables = shape; rows = rows; filling = filling_of shape (record { rows = rows; bytes = bytes }) } }
+    {
+        Store { shape, rows, bytes }
+    }
+
     pub fn shape(&self) -> &Shape
         ensures { result.now ≡ self.now.tables }
     {
