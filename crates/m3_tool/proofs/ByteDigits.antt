@@ -15,7 +15,7 @@ pub length-digits : (b n x : ℕ) → length (digits b n x) ≡ n
 length-digits b zero x = refl
 length-digits b (suc n) x = ap suc (length-digits b n (x / b))
 
-digit_within : (b n x p : ℕ) → p < n → get_or (digits b n x) p 0 ≡ x / b ^ p % b
+pub digit_within : (b n x p : ℕ) → p < n → get_or (digits b n x) p 0 ≡ x / b ^ p % b
 digit_within b zero x p h = absurd (omega arith)
 digit_within b (suc n) x zero h = ap (λ y. y % b) (sym (ap (λ y. x / y) (pow-zero b) ∙ div-one x))
 digit_within b (suc n) x (suc p) h =

@@ -208,7 +208,7 @@ is_filling tables rows bytes stored = record {
   counts = stored.counts;
   few = stored.few;
   columns = λ t c table column e f.
-    let p = spelled_parts (slice_get bytes t) c (λ b. number_of_bytes b < 2 ^ bits_of (get_or rows t 0) column) (stored.columns t c table column e f) in
-    let is = the_column tables rows bytes t c table column p.0 p.1 stored.counts e f p.2 p.3 in
-    subst (IsColumn (get_or rows t 0) column) (sym is) (is_column (get_or rows t 0) column p.1 p.4);
+      let p = spelled_parts (slice_get bytes t) c (λ b. number_of_bytes b < 2 ^ bits_of (get_or rows t 0) column) (stored.columns t c table column e f) in
+      let is = the_column tables rows bytes t c table column p.0 p.1 stored.counts e f p.2 p.3 in
+      subst (IsColumn (get_or rows t 0) column) (sym is) (is_column (get_or rows t 0) column p.1 p.4);
 }

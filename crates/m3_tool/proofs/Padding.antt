@@ -33,7 +33,7 @@ last_byte_decides bytes bits h len some =
     elim (cases_lt last (2 ^ used)) [
       | inl lt ↦ eq-eqb (last / 2 ^ used) 0 (div-eq_of_lt {n = last} {m = 2 ^ used} lt) ∙ sym (lt-ltb n (2 ^ bits) (omega (arith, both.0 (omega arith), k)))
       | inr ge ↦ ne_eqb (last / 2 ^ used) 0 (λ e. absurd (omega (arith, e, le-div 1 last (2 ^ used) (pow_pos used) (omega arith))))
-        ∙ sym (le-ltb n (2 ^ bits) (le_of (cases_lt n (2 ^ bits)) (λ lt. absurd (omega (arith, both.1 (omega (arith, k)), is)))))
+          ∙ sym (le-ltb n (2 ^ bits) (le_of (cases_lt n (2 ^ bits)) (λ lt. absurd (omega (arith, both.1 (omega (arith, k)), is)))))
     ]
   where
     le_of : {n m : ℕ} → (n < m) ⊎ (m ≤ n) → (n < m → ⊥) → m ≤ n

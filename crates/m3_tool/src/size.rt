@@ -17,8 +17,7 @@ pub fn ceil_log(x: u64) -> u32
 pub fn ceil_log_is_least()
     ensures enough { (x : ℕ) → x ≤ 2 ^ ceil_log x }
     ensures least { (x e : ℕ) → e < ceil_log x → 2 ^ e < x }
-{
-}
+{}
 
 fn columns_bits(rows: u32, columns: &[ColumnShape]) -> u64
     requires rows_few { rows ≤ 1048576 }

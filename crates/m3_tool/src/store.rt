@@ -1,8 +1,8 @@
 //! The values of a witness.
 
-ghost use Rattle.std.specs.Prelude.{◌≡◌, ◌/◌, ◌%◌, ◌^◌, ◌<◌, ◌≤◌, length, slice_index};
+ghost use Rattle.std.specs.Prelude.{◌≡◌, ℕ, ◌/◌, ◌%◌, ◌^◌, ◌<◌, ◌≤◌, length, slice_index};
 ghost use Rattle.m3_tool.specs.Filling.{values_of};
-ghost use Rattle.m3_tool.specs.Digits.{number_of_bytes};
+ghost use Rattle.m3_tool.specs.Digits.{digits, number_of_bytes};
 
 use crate::shape::Shape;
 use sqlite_items::{Items, at};
@@ -83,6 +83,11 @@ impl Store {
         B128::from_number(value).unwrap_or(B128::ZERO)
     }
 }
+
+/// The digit of a number at a place that it has.
+pub fn digits_stand_by_place()
+    ensures { (base n x p : ℕ) → p < n → slice_index (digits base n x) p ≡ x / base ^ p % base }
+{}
 
 /// The value of `2 ^ level` bits at a position.
 fn digit_of_bytes(bytes: &[u8], level: u32, position: u32) -> u128

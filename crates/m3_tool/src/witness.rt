@@ -92,7 +92,11 @@ pub fn read_witness(alloc: Global, shape: Shape, file: &[u8]) -> Result<Store, W
 type TableBytes = Items<Items<u8>>;
 
 /// The rows of the tables, and the bytes of their columns.
-fn witness_of(alloc: Global, shape: &Shape, file: &[u8]) -> Result<(Items<u32>, Items<TableBytes>), WitnessStop>
+fn witness_of(
+    alloc: Global,
+    shape: &Shape,
+    file: &[u8],
+) -> Result<(Items<u32>, Items<TableBytes>), WitnessStop>
     ensures { Gives (λ w. record { rows = w.0; bytes = w.1 }) result (witness_of shape.now file.now) }
 {
     let json = json_of(alloc, file)?;
@@ -155,7 +159,11 @@ fn rows_of(object: &Map<String, Value>) -> Option<u32>
 }
 
 /// The object of table `t`, and its number of rows.
-fn object_of<'a>(t: u32, table: &TableShape, whole: &'a Map<String, Value>) -> Result<(&'a Map<String, Value>, u32), WitnessStop>
+fn object_of<'a>(
+    t: u32,
+    table: &TableShape,
+    whole: &'a Map<String, Value>,
+) -> Result<(&'a Map<String, Value>, u32), WitnessStop>
     ensures object { Gives (λ o. (members_view o.0.now.entries, o.1)) result (object_of t table.now (members_view whole.now.entries)) }
     ensures few { IfOk result (λ o. o.1 ≤ max_rows) }
 {
@@ -172,7 +180,11 @@ fn object_of<'a>(t: u32, table: &TableShape, whole: &'a Map<String, Value>) -> R
     Ok((object, rows))
 }
 
-fn rows_of_tables(alloc: Global, tables: &[TableShape], whole: &Map<String, Value>) -> Result<Items<u32>, WitnessStop>
+fn rows_of_tables(
+    alloc: Global,
+    tables: &[TableShape],
+    whole: &Map<String, Value>,
+) -> Result<Items<u32>, WitnessStop>
     requires { length tables.now ≤ max_tables }
     ensures { Gives (λ rows. rows) result (rows_of_tables tables.now (members_view whole.now.entries)) }
 {
@@ -185,7 +197,11 @@ fn rows_of_tables(alloc: Global, tables: &[TableShape], whole: &Map<String, Valu
 }
 
 /// The bytes of all columns of the tables, whose objects and rows are without fault.
-fn tables_bytes(alloc: Global, tables: &[TableShape], whole: &Map<String, Value>) -> Result<Items<TableBytes>, WitnessStop>
+fn tables_bytes(
+    alloc: Global,
+    tables: &[TableShape],
+    whole: &Map<String, Value>,
+) -> Result<Items<TableBytes>, WitnessStop>
     requires few { length tables.now ≤ max_tables }
     requires fit { TablesFit tables.now }
     ensures { (objects : List (Members × ℕ)) → objects_of 0 tables.now (members_view whole.now.entries) ≡ Ok objects
@@ -200,7 +216,13 @@ fn tables_bytes(alloc: Global, tables: &[TableShape], whole: &Map<String, Value>
     Ok(all)
 }
 
-fn table_bytes(alloc: Global, t: u32, table: &TableShape, rows: u32, object: &Map<String, Value>) -> Result<TableBytes, WitnessStop>
+fn table_bytes(
+    alloc: Global,
+    t: u32,
+    table: &TableShape,
+    rows: u32,
+    object: &Map<String, Value>,
+) -> Result<TableBytes, WitnessStop>
     requires fit { TableFits table.now }
     requires rows_few { rows ≤ max_rows }
     ensures { Gives (λ bytes. bytes) result (table_bytes t table.now (members_view object.now.entries, rows)) }
@@ -212,7 +234,13 @@ fn table_bytes(alloc: Global, t: u32, table: &TableShape, rows: u32, object: &Ma
     Ok(bytes)
 }
 
-fn columns_bytes(alloc: Global, t: u32, rows: u32, columns: &[ColumnShape], object: &Map<String, Value>) -> Result<TableBytes, WitnessStop>
+fn columns_bytes(
+    alloc: Global,
+    t: u32,
+    rows: u32,
+    columns: &[ColumnShape],
+    object: &Map<String, Value>,
+) -> Result<TableBytes, WitnessStop>
     requires few { length columns.now ≤ max_columns }
     requires fit { ColumnsFit columns.now }
     requires rows_few { rows ≤ max_rows }
@@ -221,14 +249,26 @@ fn columns_bytes(alloc: Global, t: u32, rows: u32, columns: &[ColumnShape], obje
     let mut all = Items::new(alloc);
     for (c, column) in columns.iter().enumerate() {
         let bits = u64::from(rows) << (column.log_values + column.level);
-        let bytes = column_bytes(alloc, WitnessPlace::Column(t, c as u32), bits, column, object)?;
+        let bytes = column_bytes(
+            alloc,
+            WitnessPlace::Column(t, c as u32),
+            bits,
+            column,
+            object,
+        )?;
         all.push(bytes)?;
     }
     Ok(all)
 }
 
 /// The bytes of a column of so many bits.
-fn column_bytes(alloc: Global, place: WitnessPlace, bits: u64, column: &ColumnShape, object: &Map<String, Value>) -> Result<Items<u8>, WitnessStop>
+fn column_bytes(
+    alloc: Global,
+    place: WitnessPlace,
+    bits: u64,
+    column: &ColumnShape,
+    object: &Map<String, Value>,
+) -> Result<Items<u8>, WitnessStop>
     requires few { bits ≤ 2 ^ 34 }
     ensures { (t c rows : ℕ) → place ≡ WitnessPlace.Column t c → bits ≡ bits_of rows column.now → Gives (λ bytes. bytes) result (column_bytes t c rows column.now (members_view object.now.entries)) }
 {
