@@ -33,6 +33,10 @@ Got r x = r ≡ Ok x
 same : {X : Type 0} (x y : X) → Got (Ok x) y → x ≡ y
 same x y e = cc
 
+-- what holds of the value that was made holds of the value that was found
+along : {X : Type 0} (P : X → Type 0) (x y : X) → Got (Ok x) y → P x → P y
+along P x y e h = subst P (same x y e) h
+
 was_there : {X : Type 0} (place : WitnessPlace) (kind : WitnessKind) (o : Option X) (x : X) → or_refuse place kind o ≡ Ok x → o ≡ Some x
 was_there place kind None x e = absurd cc
 was_there place kind (Some y) x e = ap Some (same y x e)
@@ -55,7 +59,7 @@ object_few t table whole object e =
     let made : Members × ℕ = (b.0, d.0) in
     let few = rows_small (option_and_then as_u64 (option_and_then as_number (get_member (codes "rows") b.0))) d.0 (was_there (Table t) BadRows (rows_of b.0) d.0 d.1) in
     let P : Members × ℕ → Type 0 = λ o. o.1 ≤ 1048576 in
-    subst P (same made object d.2) few
+    along P made object d.2 few
 
 pub record AreRows (tables : List TableShape) (rows : List ℕ) : Type 0 where
   pub counts : length rows ≡ length tables
@@ -68,19 +72,19 @@ few_more m rows h k (suc t) = k t
 pub objects_rows : (t : ℕ) (tables : List TableShape) (whole : Members) (objects : List (Members × ℕ)) → objects_of t tables whole ≡ Ok objects → AreRows tables (map (λ o. o.1) objects)
 objects_rows t [] whole objects e =
     let nil : List (Members × ℕ) = [] in
-    subst (λ (os : List (Members × ℕ)). AreRows [] (map (λ o. o.1) os)) (same nil objects e) (record { counts = refl; few = λ i. omega arith })
+    along (λ (os : List (Members × ℕ)). AreRows [] (map (λ o. o.1) os)) nil objects e (record { counts = refl; few = λ i. omega arith })
 objects_rows t (table ∷ tables) whole objects e =
     let a = bind_ok (object_of t table whole) (λ object. objects_of (t + 1) tables whole >>= (λ more. Ok (object ∷ more))) objects e in
     let b = bind_ok (objects_of (t + 1) tables whole) (λ more. Ok (a.0 ∷ more)) objects a.2 in
     let made : List (Members × ℕ) = a.0 ∷ b.0 in
     let others = objects_rows (t + 1) tables whole b.0 b.1 in
-    subst (λ (os : List (Members × ℕ)). AreRows (table ∷ tables) (map (λ o. o.1) os)) (same made objects b.2)
+    along (λ (os : List (Members × ℕ)). AreRows (table ∷ tables) (map (λ o. o.1) os)) made objects b.2
     (record { counts = ap suc others.counts; few = few_more a.0.1 (map (λ o. o.1) b.0) (object_few t table whole a.0 a.1) others.few })
 
 pub rows_kept : (tables : List TableShape) (whole : Members) (rows : List ℕ) → rows_of_tables tables whole ≡ Ok rows → AreRows tables rows
 rows_kept tables whole rows e =
     let a = bind_ok (objects_of 0 tables whole) (λ objects. Ok (map (λ o. o.1) objects)) rows e in
-    subst (AreRows tables) (same (map (λ o. o.1) a.0) rows a.2) (objects_rows 0 tables whole a.0 a.1)
+    along (AreRows tables) (map (λ o. o.1) a.0) rows a.2 (objects_rows 0 tables whole a.0 a.1)
 
 -- ---- bytes
 
@@ -109,7 +113,7 @@ columns_kept t k rows (first ∷ columns) object bytes e c column is =
     let a = bind_ok (column_bytes t k rows first object) (λ b. columns_bytes t (k + 1) rows columns object >>= (λ more. Ok (b ∷ more))) bytes e in
     let b = bind_ok (columns_bytes t (k + 1) rows columns object) (λ more. Ok (a.0 ∷ more)) bytes a.2 in
     let made : List (List ℕ) = a.0 ∷ b.0 in
-    subst (λ (bs : List (List ℕ)). IsSpelled rows column (slice_get bs c)) (same made bytes b.2)
+    along (λ (bs : List (List ℕ)). IsSpelled rows column (slice_get bs c)) made bytes b.2
     (at_place rows first columns a.0 b.0 (column_kept t k rows first object a.0 a.1) (columns_kept t (k + 1) rows columns object b.0 b.1) c column is)
   where
     at_place : (rows : ℕ) (first : ColumnShape) (columns : List ColumnShape) (b : List ℕ) (more : List (List ℕ)) → number_of_bytes b < 2 ^ bits_of rows first
@@ -137,7 +141,7 @@ tables_kept t (first ∷ tables) (object ∷ objects) bytes len e i c table colu
     let a = bind_ok (table_bytes t first object) (λ b. tables_bytes (t + 1) tables objects >>= (λ more. Ok (b ∷ more))) bytes e in
     let b = bind_ok (tables_bytes (t + 1) tables objects) (λ more. Ok (a.0 ∷ more)) bytes a.2 in
     let made : List (List (List ℕ)) = a.0 ∷ b.0 in
-    subst (λ (bs : List (List (List ℕ))). IsSpelled (get_or (object.1 ∷ map (λ o. o.1) objects) i 0) column (bytes_at bs i c)) (same made bytes b.2)
+    along (λ (bs : List (List (List ℕ))). IsSpelled (get_or (object.1 ∷ map (λ o. o.1) objects) i 0) column (bytes_at bs i c)) made bytes b.2
     (at_place first tables object.1 (map (λ o. o.1) objects) a.0 b.0 (table_kept t first object a.0 a.1) (tables_kept (t + 1) tables objects b.0 (omega arith) b.1) i c table column is has)
   where
     at_place : (first : TableShape) (tables : List TableShape) (m : ℕ) (rows : List ℕ) (b : List (List ℕ)) (more : List (List (List ℕ)))

@@ -25,6 +25,9 @@ use sqlite_items::Items;
 use std::alloc::{AllocError, Global};
 use std::str;
 
+#[cfg(test)]
+mod tests;
+
 /// Where a witness is faulty.
 #[derive(Clone, Copy, Debug, PartialEq, Eq)]
 pub enum WitnessPlace {
