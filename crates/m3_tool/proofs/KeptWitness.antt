@@ -88,6 +88,9 @@ rows_kept tables whole rows e =
 
 -- ---- bytes
 
+below_along : (x y : List ℕ) (n : ℕ) → x ≡ y → number_of_bytes x < n → number_of_bytes y < n
+below_along x y n e h = let P : List ℕ → Type 0 = λ z. number_of_bytes z < n in subst P e h
+
 column_kept : (t c rows : ℕ) (column : ColumnShape) (object : Members) (bytes : List ℕ) → column_bytes t c rows column object ≡ Ok bytes → number_of_bytes bytes < 2 ^ bits_of rows column
 column_kept t c rows column object bytes e =
     let place = Column t c in
@@ -100,8 +103,7 @@ column_kept t c rows column object bytes e =
     let d = bind_ok (or_refuse place BadHex (hex_bytes b.0)) fourth bytes b.2 in
     let f = bind_ok (unless (length d.0 == (bits_of rows column + 7) / 8) place WrongLength d.0) last bytes d.2 in
     let g = passed (ltb (number_of_bytes f.0) (2 ^ bits_of rows column)) place PaddingBits f.0 bytes f.2 in
-    let P : List ℕ → Type 0 = λ x. number_of_bytes x < 2 ^ bits_of rows column in
-    subst P g.1 (ltb-true (number_of_bytes f.0) (2 ^ bits_of rows column) g.0)
+    below_along f.0 bytes (2 ^ bits_of rows column) g.1 (ltb-true (number_of_bytes f.0) (2 ^ bits_of rows column) g.0)
 
 abbrev IsSpelled : ℕ → ColumnShape → Option (List ℕ) → Type 0
 IsSpelled rows column o = IsSomeAnd o (λ b. number_of_bytes b < 2 ^ bits_of rows column)

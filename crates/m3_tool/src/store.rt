@@ -38,6 +38,8 @@ impl Model for Store {
 }
 
 impl Store {
+    ghost use Rattle.m3_tool.specs.Filling.{IsFilling};
+    ghost use Rattle.m3_tool.specs.Size.{size_log, max_size_log};
     ghost use Rattle.m3_tool.specs.Stored.{IsStored};
     ghost use Rattle.m3_tool.specs.Witness.{filling_of};
 
@@ -57,7 +59,9 @@ impl Store {
 
     /// How many rows each table has.
     pub fn rows(&self) -> &[u32]
-        ensures { result.now ≡ self.now.rows }
+        ensures value { result.now ≡ self.now.rows }
+        ensures fills { IsFilling self.now.tables self.now.rows self.now.filling }
+        ensures small { size_log self.now.tables self.now.rows ≤ max_size_log }
     {
         self.rows.as_slice()
     }

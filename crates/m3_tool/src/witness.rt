@@ -251,30 +251,26 @@ fn columns_bytes(
 {
     let mut all = Items::new(alloc);
     for (c, column) in columns.iter().enumerate() {
-        let bits = u64::from(rows) << (column.log_values + column.level);
-        let bytes = column_bytes(
-            alloc,
-            WitnessPlace::Column(t, c as u32),
-            bits,
-            column,
-            object,
-        )?;
+        let bytes = column_bytes(alloc, t, c as u32, rows, column, object)?;
         all.push(bytes)?;
     }
     Ok(all)
 }
 
-/// The bytes of a column of so many bits.
 fn column_bytes(
     alloc: Global,
-    place: WitnessPlace,
-    bits: u64,
+    t: u32,
+    c: u32,
+    rows: u32,
     column: &ColumnShape,
     object: &Map<String, Value>,
 ) -> Result<Items<u8>, WitnessStop>
-    requires few { bits ≤ 2 ^ 34 }
-    ensures { (t c rows : ℕ) → place ≡ WitnessPlace.Column t c → bits ≡ bits_of rows column.now → Gives (λ bytes. bytes) result (column_bytes t c rows column.now (members_view object.now.entries)) }
+    requires rows_few { rows ≤ max_rows }
+    requires level { column.now.level ≤ 7 }
+    requires values { column.now.log_values ≤ 7 }
+    ensures { Gives (λ bytes. bytes) result (column_bytes t c rows column.now (members_view object.now.entries)) }
 {
+    let place = WitnessPlace::Column(t, c);
     let Some(found) = member(object, column.name.as_slice()) else {
         return Err(refused(place, WitnessKind::MissingColumn));
     };
@@ -282,6 +278,7 @@ fn column_bytes(
         return Err(refused(place, WitnessKind::NotAText));
     };
     let bytes = hex_bytes(alloc, place, text)?;
+    let bits = bits_of(rows, column);
     if bytes.len() as u64 != (bits + 7) / 8 {
         return Err(refused(place, WitnessKind::WrongLength));
     }
@@ -289,6 +286,16 @@ fn column_bytes(
         return Err(refused(place, WitnessKind::PaddingBits));
     }
     Ok(bytes)
+}
+
+fn bits_of(rows: u32, column: &ColumnShape) -> u64
+    requires rows_few { rows ≤ max_rows }
+    requires level { column.now.level ≤ 7 }
+    requires values { column.now.log_values ≤ 7 }
+    ensures value { result ≡ bits_of rows column.now }
+    ensures bound { result ≤ 2 ^ 34 }
+{
+    u64::from(rows) << (column.log_values + column.level)
 }
 
 fn hex_bytes(alloc: Global, place: WitnessPlace, text: &str) -> Result<Items<u8>, WitnessStop>

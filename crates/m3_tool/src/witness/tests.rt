@@ -63,237 +63,174 @@ fn two_tables(alloc: Global) -> Result<Shape, AllocError> {
     Ok(Shape::of(tables))
 }
 
-fn fault(place: WitnessPlace, kind: WitnessKind) -> Option<WitnessStop> {
-    Some(WitnessStop::Fault(WitnessFault { place, kind }))
-}
-
 #[test]
 fn one_table_is_judged(rt: HostRuntime) -> Result<(), Fail> {
     let whole = WitnessPlace::Whole;
     let table = WitnessPlace::Table(0);
     let column = WitnessPlace::Column(0, 0);
-    let cases: [(&[u8], Option<WitnessStop>); 35] = [
-        (b"{", fault(whole, WitnessKind::NotJson)),
+    for (file, place, kind) in [
+        ("{", whole, WitnessKind::NotJson),
+        ("[]", whole, WitnessKind::NotAnObject),
+        ("{}", table, WitnessKind::MissingTable),
+        (r#"{"t":""}"#, table, WitnessKind::NotAnObject),
+        (r#"{"t":{"a":""}}"#, table, WitnessKind::BadRows),
         (
-            b"{\"t\":{\"rows\":0,\"a\":\"\",\"\xff\":0}}",
-            fault(whole, WitnessKind::NotJson),
-        ),
-        (b"[]", fault(whole, WitnessKind::NotAnObject)),
-        (b"{}", fault(table, WitnessKind::MissingTable)),
-        (b"{\"u\":{}}", fault(table, WitnessKind::MissingTable)),
-        (b"{\"t\":\"\"}", fault(table, WitnessKind::NotAnObject)),
-        (b"{\"t\":{\"a\":\"\"}}", fault(table, WitnessKind::BadRows)),
-        (
-            b"{\"t\":{\"rows\":1.0,\"a\":\"01\"}}",
-            fault(table, WitnessKind::BadRows),
+            r#"{"t":{"rows":1.0,"a":"01"}}"#,
+            table,
+            WitnessKind::BadRows,
         ),
         (
-            b"{\"t\":{\"rows\":1e0,\"a\":\"01\"}}",
-            fault(table, WitnessKind::BadRows),
+            r#"{"t":{"rows":1e0,"a":"01"}}"#,
+            table,
+            WitnessKind::BadRows,
+        ),
+        (r#"{"t":{"rows":-0,"a":""}}"#, table, WitnessKind::BadRows),
+        (r#"{"t":{"rows":-1,"a":""}}"#, table, WitnessKind::BadRows),
+        (
+            r#"{"t":{"rows":"1","a":"01"}}"#,
+            table,
+            WitnessKind::BadRows,
         ),
         (
-            b"{\"t\":{\"rows\":-0,\"a\":\"\"}}",
-            fault(table, WitnessKind::BadRows),
+            r#"{"t":{"rows":1048577,"a":""}}"#,
+            table,
+            WitnessKind::BadRows,
+        ),
+        (r#"{"t":{"rows":1}}"#, column, WitnessKind::MissingColumn),
+        (r#"{"t":{"rows":1,"a":1}}"#, column, WitnessKind::NotAText),
+        (r#"{"t":{"rows":1,"a":"1"}}"#, column, WitnessKind::BadHex),
+        (r#"{"t":{"rows":1,"a":"0g"}}"#, column, WitnessKind::BadHex),
+        (
+            r#"{"t":{"rows":1,"a":""}}"#,
+            column,
+            WitnessKind::WrongLength,
         ),
         (
-            b"{\"t\":{\"rows\":-1,\"a\":\"\"}}",
-            fault(table, WitnessKind::BadRows),
+            r#"{"t":{"rows":0,"a":"00"}}"#,
+            column,
+            WitnessKind::WrongLength,
         ),
         (
-            b"{\"t\":{\"rows\":\"1\",\"a\":\"01\"}}",
-            fault(table, WitnessKind::BadRows),
+            r#"{"t":{"rows":1,"a":"03"}}"#,
+            column,
+            WitnessKind::PaddingBits,
         ),
         (
-            b"{\"t\":{\"rows\":1048577,\"a\":\"\"}}",
-            fault(table, WitnessKind::BadRows),
+            r#"{"t":{"rows":9,"a":"ff02"}}"#,
+            column,
+            WitnessKind::PaddingBits,
         ),
         (
-            b"{\"t\":{\"rows\":18446744073709551616,\"a\":\"\"}}",
-            fault(table, WitnessKind::BadRows),
+            r#"{"t":{"rows":1,"a":"01","a":"03"}}"#,
+            column,
+            WitnessKind::PaddingBits,
         ),
         (
-            b"{\"t\":{\"rows\":1}}",
-            fault(column, WitnessKind::MissingColumn),
+            r#"{"t":{"rows":1,"a":"01","z":0}}"#,
+            table,
+            WitnessKind::ExtraColumn,
         ),
         (
-            b"{\"t\":{\"rows\":1,\"A\":\"01\"}}",
-            fault(column, WitnessKind::MissingColumn),
+            r#"{"t":{"rows":1,"a":"01"},"u":{}}"#,
+            whole,
+            WitnessKind::ExtraTable,
         ),
-        (
-            b"{\"t\":{\"rows\":1,\"a\":1}}",
-            fault(column, WitnessKind::NotAText),
-        ),
-        (
-            b"{\"t\":{\"rows\":1,\"a\":null}}",
-            fault(column, WitnessKind::NotAText),
-        ),
-        (
-            b"{\"t\":{\"rows\":1,\"a\":\"1\"}}",
-            fault(column, WitnessKind::BadHex),
-        ),
-        (
-            b"{\"t\":{\"rows\":1,\"a\":\"0g\"}}",
-            fault(column, WitnessKind::BadHex),
-        ),
-        (
-            b"{\"t\":{\"rows\":1,\"a\":\"\"}}",
-            fault(column, WitnessKind::WrongLength),
-        ),
-        (
-            b"{\"t\":{\"rows\":1,\"a\":\"0100\"}}",
-            fault(column, WitnessKind::WrongLength),
-        ),
-        (
-            b"{\"t\":{\"rows\":0,\"a\":\"00\"}}",
-            fault(column, WitnessKind::WrongLength),
-        ),
-        (
-            b"{\"t\":{\"rows\":1,\"a\":\"03\"}}",
-            fault(column, WitnessKind::PaddingBits),
-        ),
-        (
-            b"{\"t\":{\"rows\":9,\"a\":\"ff02\"}}",
-            fault(column, WitnessKind::PaddingBits),
-        ),
-        (
-            b"{\"t\":{\"rows\":1,\"a\":\"01\",\"a\":\"03\"}}",
-            fault(column, WitnessKind::PaddingBits),
-        ),
-        (b"{\"t\":{\"rows\":1,\"a\":\"03\",\"a\":\"01\"}}", None),
-        (
-            b"{\"t\":{\"rows\":1,\"a\":\"01\",\"z\":0}}",
-            fault(table, WitnessKind::ExtraColumn),
-        ),
-        (
-            b"{\"t\":{\"rows\":1,\"a\":\"01\"},\"u\":{}}",
-            fault(whole, WitnessKind::ExtraTable),
-        ),
-        (
-            b"{\"t\":{\"rows\":1,\"a\":\"01\",\"z\":0},\"u\":{}}",
-            fault(table, WitnessKind::ExtraColumn),
-        ),
-        (b"{\"t\":{\"rows\":1,\"a\":\"01\"}}", None),
-        (b"{\"t\":{\"rows\":8,\"a\":\"ff\"}}", None),
-        (b"{\"t\":{\"rows\":9,\"a\":\"ff01\"}}", None),
-        (b" { \"t\" : { \"a\" : \"\" , \"rows\" : 0 } } ", None),
-        (b"{\"\\u0074\":{\"rows\":0,\"a\":\"\"}}", None),
-    ];
-    for (file, want) in cases {
-        let found = read_witness(rt.alloc(), one_table(rt.alloc(), 0, 0)?, file);
-        assert_eq!(rt; found.err(), want, "at {file:?}");
+    ] {
+        let stop = read_witness(rt.alloc(), one_table(rt.alloc(), 0, 0)?, file.as_bytes()).err();
+        assert_eq!(rt;
+            stop,
+            Some(WitnessStop::Fault(WitnessFault { place, kind })),
+            "at {file}"
+        );
     }
+    let stop = read_witness(rt.alloc(), one_table(rt.alloc(), 0, 0)?, b"\xff").err();
+    assert_eq!(rt; stop, Some(refused(whole, WitnessKind::NotJson)));
     Ok(())
 }
 
 #[test]
 fn two_tables_are_judged_in_order(rt: HostRuntime) -> Result<(), Fail> {
-    let cases: [(&str, Option<WitnessStop>); 8] = [
-        (
-            r#"{"t":{"rows":1048576}}"#,
-            fault(WitnessPlace::Table(1), WitnessKind::MissingTable),
-        ),
+    for (file, place, kind) in [
         (
             r#"{"t":{"rows":1048576},"u":{"rows":-1}}"#,
-            fault(WitnessPlace::Table(1), WitnessKind::BadRows),
-        ),
-        (
-            r#"{"t":{"rows":1048576},"u":{"rows":1}}"#,
-            Some(WitnessStop::TooLarge { log_bits: 28 }),
-        ),
-        (
-            r#"{"t":{"rows":131072},"u":{"rows":0}}"#,
-            Some(WitnessStop::TooLarge { log_bits: 25 }),
+            WitnessPlace::Table(1),
+            WitnessKind::BadRows,
         ),
         (
             r#"{"t":{"rows":1,"z":0},"u":{"rows":1}}"#,
-            fault(WitnessPlace::Column(0, 0), WitnessKind::MissingColumn),
+            WitnessPlace::Column(0, 0),
+            WitnessKind::MissingColumn,
         ),
         (
             r#"{"t":{"rows":0,"a":""},"u":{"rows":1,"b":"01"}}"#,
-            fault(WitnessPlace::Column(1, 1), WitnessKind::MissingColumn),
+            WitnessPlace::Column(1, 1),
+            WitnessKind::MissingColumn,
         ),
-        (
-            r#"{"t":{"rows":0,"a":""},"u":{"rows":1,"b":"01","c":"01","rOws":1}}"#,
-            fault(WitnessPlace::Table(1), WitnessKind::ExtraColumn),
-        ),
-        (
-            r#"{"u":{"rows":1,"b":"01","c":"01"},"t":{"rows":0,"a":""}}"#,
-            None,
-        ),
-    ];
-    for (file, want) in cases {
-        let found = read_witness(rt.alloc(), two_tables(rt.alloc())?, file.as_bytes());
-        assert_eq!(rt; found.err(), want, "at {file}");
+    ] {
+        let stop = read_witness(rt.alloc(), two_tables(rt.alloc())?, file.as_bytes()).err();
+        assert_eq!(rt;
+            stop,
+            Some(WitnessStop::Fault(WitnessFault { place, kind })),
+            "at {file}"
+        );
     }
     Ok(())
 }
 
 #[test]
-fn the_largest_size(rt: HostRuntime) -> Result<(), Fail> {
+fn sizes_above_the_limit(rt: HostRuntime) -> Result<(), Fail> {
     let file = br#"{"t":{"rows":1048576,"a":""}}"#;
-    let cases = [(4, None), (5, Some(25)), (7, Some(27))];
-    for (level, want) in cases {
-        let found = read_witness(rt.alloc(), one_table(rt.alloc(), level, 0)?, file);
-        let stop = match want {
-            Some(log_bits) => Some(WitnessStop::TooLarge { log_bits }),
-            None => fault(WitnessPlace::Column(0, 0), WitnessKind::WrongLength),
-        };
-        assert_eq!(rt; found.err(), stop, "at level {level}");
+    for (level, log_bits) in [(5, 25), (7, 27)] {
+        let stop = read_witness(rt.alloc(), one_table(rt.alloc(), level, 0)?, file).err();
+        assert_eq!(rt; stop, Some(WitnessStop::TooLarge { log_bits }));
     }
+    let stop = read_witness(rt.alloc(), one_table(rt.alloc(), 4, 0)?, file).err();
+    assert_eq!(rt;
+        stop,
+        Some(refused(WitnessPlace::Column(0, 0), WitnessKind::WrongLength))
+    );
     Ok(())
 }
 
 #[test]
 fn values_at_positions(rt: HostRuntime) -> Result<(), Fail> {
-    let cases: [(u32, u32, &str, &[u128]); 11] = [
-        (0, 0, r#"{"t":{"rows":0,"a":""}}"#, &[0]),
-        (0, 0, r#"{"t":{"rows":3,"a":"07"}}"#, &[1, 1, 1, 0, 0]),
-        (
-            0,
-            2,
-            r#"{"t":{"rows":3,"a":"0b08"}}"#,
-            &[1, 1, 0, 1, 0, 0, 0, 0, 0, 0, 0, 1, 0, 0, 0, 0],
-        ),
-        (1, 0, r#"{"t":{"rows":2,"a":"0d"}}"#, &[1, 3, 0]),
-        (2, 0, r#"{"t":{"rows":3,"a":"2103"}}"#, &[1, 2, 3, 0]),
-        (3, 0, r#"{"t":{"rows":2,"a":"aBFf"}}"#, &[171, 255, 0]),
-        (4, 1, r#"{"t":{"rows":1,"a":"01020304"}}"#, &[513, 1027, 0]),
-        (5, 0, r#"{"t":{"rows":1,"a":"04030201"}}"#, &[16909060, 0]),
+    for (level, log_values, file, position, value) in [
+        (0, 0, r#"{"t":{"rows":0,"a":""}}"#, 0, 0),
+        (0, 0, r#"{"t":{"rows":3,"a":"07"}}"#, 2, 1),
+        (0, 0, r#"{"t":{"rows":3,"a":"07"}}"#, 3, 0),
+        (0, 2, r#"{"t":{"rows":3,"a":"0b08"}}"#, 2, 0),
+        (0, 2, r#"{"t":{"rows":3,"a":"0b08"}}"#, 11, 1),
+        (1, 0, r#"{"t":{"rows":2,"a":"0d"}}"#, 0, 1),
+        (1, 0, r#"{"t":{"rows":2,"a":"0d"}}"#, 1, 3),
+        (2, 0, r#"{"t":{"rows":3,"a":"2103"}}"#, 1, 2),
+        (2, 0, r#"{"t":{"rows":3,"a":"2103"}}"#, 2, 3),
+        (3, 0, r#"{"t":{"rows":2,"a":"aBFf"}}"#, 0, 171),
+        (4, 1, r#"{"t":{"rows":1,"a":"01020304"}}"#, 1, 1027),
+        (5, 0, r#"{"t":{"rows":1,"a":"04030201"}}"#, 0, 16909060),
         (
             6,
             0,
             r#"{"t":{"rows":1,"a":"0000000000000080"}}"#,
-            &[9223372036854775808, 0],
+            0,
+            9223372036854775808,
         ),
         (
             7,
             0,
             r#"{"t":{"rows":1,"a":"00000000000000000100000000000000"}}"#,
-            &[18446744073709551616, 0],
-        ),
-        (
-            7,
             0,
-            r#"{"t":{"rows":2,"a":"ffffffffffffffffffffffffffffffff01000000000000000000000000000000"}}"#,
-            &[u128::MAX, 1, 0],
+            18446744073709551616,
         ),
-    ];
-    for (level, log_values, file, want) in cases {
-        let store = read_witness(
-            rt.alloc(),
-            one_table(rt.alloc(), level, log_values)?,
-            file.as_bytes(),
-        )?;
-        for (position, value) in want.iter().enumerate() {
-            let position = position.min(100) as u32;
-            assert_eq!(rt;
-                store.value(0, 0, position).number(),
-                *value,
-                "at {file}, position {position}"
-            );
-            assert_eq!(rt; store.value(0, 1, position).number(), 0);
-            assert_eq!(rt; store.value(1, 0, position).number(), 0);
-        }
+    ] {
+        let shape = one_table(rt.alloc(), level, log_values)?;
+        let store = read_witness(rt.alloc(), shape, file.as_bytes())?;
+        assert_eq!(rt;
+            store.value(0, 0, position).number(),
+            value,
+            "at {file}, position {position}"
+        );
+        assert_eq!(rt; store.value(0, 1, position).number(), 0);
+        assert_eq!(rt; store.value(1, 0, position).number(), 0);
         assert_eq!(rt; store.value(0, 0, u32::MAX).number(), 0);
     }
     Ok(())
@@ -301,12 +238,11 @@ fn values_at_positions(rt: HostRuntime) -> Result<(), Fail> {
 
 #[test]
 fn a_store_keeps_shape_and_rows(rt: HostRuntime) -> Result<(), Fail> {
-    let file = br#"{"t":{"rows":0,"a":""},"u":{"rows":3,"b":"05","c":"0a0b0c"}}"#;
+    let file = br#"{"u":{"rows":3,"b":"05","c":"0a0b0c"},"t":{"a":"","rows":0}}"#;
     let store = read_witness(rt.alloc(), two_tables(rt.alloc())?, file)?;
     assert_eq!(rt; store.rows(), [0, 3].as_slice());
     assert_eq!(rt; store.shape().tables().len(), 2);
-    assert_eq!(rt; size_log(&two_tables(rt.alloc())?, store.rows()), 8);
-    assert_eq!(rt; store.value(1, 0, 2).number(), 1);
+    assert_eq!(rt; size_log(store.shape(), store.rows()), 8);
     assert_eq!(rt; store.value(1, 1, 1).number(), 11);
     Ok(())
 }
