@@ -6,5 +6,6 @@ pub mod lines;
 pub mod resolve;
 pub mod shape;
 pub mod status;
+pub mod size;
 pub mod store;
 pub mod witness;
