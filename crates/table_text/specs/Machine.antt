@@ -28,6 +28,7 @@ name_of (number n) = None
 name_of (mark b) = None
 name_of (wrong kind) = None
 
+-- whether a token is this reserved word
 abbrev pub is_word : List ℕ → Token → Bool
 is_word word (name w) = false
 is_word word (reserved w) = bytes_eq w word
@@ -55,9 +56,11 @@ abbrev pub split_last : {X : Type 0} → List X → Option (List X × X)
 split_last [] = None
 split_last (x ∷ xs) = Some (put_front x (split_last xs))
 
+-- before the first operand
 abbrev pub no_formula : Formula
 no_formula = record { outer = []; terms = []; factors = [] }
 
+-- behind a number, a name or a parenthesis
 abbrev pub with_factor : Formula → Expr → Formula
 with_factor f e = record { outer = f.outer; terms = f.terms; factors = f.factors ++ e ∷ [] }
 
@@ -77,6 +80,7 @@ innermost f = sum_of (f.terms ++ product_of f.factors ∷ [])
 abbrev pub back_in : Expr → List Frame × Frame → Formula
 back_in e (outer, frame) = record { outer = outer; terms = frame.terms; factors = frame.factors ++ e ∷ [] }
 
+-- the sum around a `(`, with the sum behind it as its factor
 abbrev pub closed : Formula → Option Formula
 closed f = option_map (back_in (innermost f)) (split_last f.outer)
 
@@ -85,6 +89,7 @@ closed f = option_map (back_in (innermost f)) (split_last f.outer)
 abbrev pub body_at : List Item → ItemStage → Body
 body_at items stage = record { items = items; stage = stage }
 
+-- at an operand: a name, a number or a `(`
 abbrev pub operand_step : List ℕ → Formula → Token → Option ItemStage
 operand_step n f (name w) = Some (Operator n (with_factor f (expr.Column w)))
 operand_step n f (reserved w) = None
@@ -92,6 +97,7 @@ operand_step n f (number k) = Some (Operator n (with_factor f (expr.Number k)))
 operand_step n f (mark b) = if b == 40 then Some (Operand n (opened f)) else None
 operand_step n f (wrong kind) = None
 
+-- behind an operand: `*`, `+`, `)` or `;`
 abbrev pub operator_step : List Item → List ℕ → Formula → Token → Option Body
 operator_step items n f token =
     if is_mark_of 42 token then Some (body_at items (Operand n f))
@@ -99,6 +105,7 @@ operator_step items n f token =
     else (if is_mark_of 41 token then option_map (λ g. body_at items (Operator n g)) (closed f)
     else (if is_mark_of 59 token && (length f.outer == 0) then Some (body_at (items ++ item.Zero n (innermost f) ∷ []) Start) else None)))
 
+-- what comes next in a table after one token more
 abbrev pub body_step : List Item → ItemStage → Token → Option Body
 body_step items Start token =
     if is_word (codes "column") token then Some (body_at items ColumnName) else (if is_word (codes "zero") token then Some (body_at items ZeroName) else None)
@@ -124,9 +131,11 @@ is_start (ZeroColon n) = false
 is_start (Operand n f) = false
 is_start (Operator n f) = false
 
+-- these declarations, and what comes next
 abbrev pub state_at : List Decl → Stage → State
 state_at decls stage = record { decls = decls; stage = stage }
 
+-- what comes next in a text after one token more
 abbrev pub stage_step : List Decl → Stage → Token → Option State
 stage_step decls stage.File token = if is_word (codes "table") token then Some (state_at decls stage.TableName) else None
 stage_step decls stage.TableName token = option_map (λ w. state_at decls (stage.TableBrace w)) (name_of token)
@@ -139,13 +148,16 @@ stage_step decls (stage.Table n body) token =
 abbrev pub step : State → Token → Option State
 step s token = stage_step s.decls s.stage token
 
+-- before the first token
 abbrev pub start : State
 start = state_at [] stage.File
 
+-- the machine after these tokens
 abbrev pub run : State → List Token → Option State
 run s [] = Some s
 run s (token ∷ tokens) = option_and_then (λ t. run t tokens) (step s token)
 
+-- whether a table, or the end of the text, comes next
 abbrev pub is_file_stage : Stage → Bool
 is_file_stage stage.File = true
 is_file_stage stage.TableName = false

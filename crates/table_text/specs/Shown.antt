@@ -13,5 +13,6 @@ shown (Number n) = lexing.number n
 shown (Mark b) = lexing.mark b
 shown (Wrong kind) = lexing.wrong kind
 
+-- a piece with its token shown so
 abbrev pub shown_piece : Piece → lexing.Piece
 shown_piece p = record { len = p.len; token = option_map shown p.token }

@@ -3,6 +3,7 @@ use Rattle.std.specs.Prelude.{◌≡◌, Option, Some, None, Result, Ok, Err}
 use Rattle.table_text.specs.declared.refusal.Refusal.{Refusal}
 use Rattle.table_text.specs.declared.refusal.Refusal.TheVariants.{Unexpected, NoMemory}
 
+-- a token is refused where the machine refuses it, unless memory runs out
 abbrev pub Refuses : {X : Type 0} → Refusal → Option X → Type 0
 Refuses Unexpected next = next ≡ None
 Refuses NoMemory next = Unit {0}
