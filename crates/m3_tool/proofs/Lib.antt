@@ -2,6 +2,7 @@ pub mod ShapeSteps
 pub mod Searching
 pub mod Products
 pub mod HexDigits
+pub mod AnswerSteps
 pub mod CeilLog
 pub mod Bits
 pub mod ByteDigits
