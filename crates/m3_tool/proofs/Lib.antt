@@ -11,3 +11,5 @@ pub mod Following
 pub mod Padding
 pub mod Members
 pub mod KeptWitness
+pub mod Once
+pub mod Runs

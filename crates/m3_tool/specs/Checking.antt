@@ -4,6 +4,8 @@ use Rattle.table_text.specs.declared.decl.Decl.{Decl}
 use Rattle.table_text.specs.Faults.{IsTablesText}
 use Rattle.m3_tool.specs.declared.check.Shaped.{Shaped}
 use Rattle.m3_tool.specs.declared.check.Shaped.TheVariants as shaped
+use Rattle.m3_tool.specs.declared.status.Status.{Status}
+use Rattle.m3_tool.specs.declared.status.Status.TheVariants.{Yes, No, Words, Tables, Witness, ReadFault, WriteFault, TooLarge, NoMemory, TooLong}
 use Rattle.m3_tool.specs.Shape.{shape_of}
 use Rattle.m3_tool.specs.Run.{Answer, IsTextAnswer, IsCheckAnswer, max_tables_file}
 use Rattle.m3_tool.specs.declared.check.Stop.{Stop}
@@ -29,3 +31,20 @@ abbrev pub UnlessReadFault : {X : Type 0} → Result X Stop → Type 0 → Type 
 UnlessReadFault (Ok x) P = P
 UnlessReadFault (Err stop.ReadFault) P = Unit {0}
 UnlessReadFault (Err stop.NoMemory) P = P
+
+-- a status that a check ends with by the bytes of its files
+abbrev pub EndsCheck : Status → Type 0
+EndsCheck Yes = Unit {0}
+EndsCheck No = Unit {0}
+EndsCheck Tables = Unit {0}
+EndsCheck Witness = Unit {0}
+EndsCheck TooLarge = Unit {0}
+EndsCheck TooLong = Unit {0}
+EndsCheck Words = ⊥
+EndsCheck ReadFault = ⊥
+EndsCheck WriteFault = ⊥
+EndsCheck NoMemory = ⊥
+
+abbrev pub RefusalEndsCheck : Shaped → Type 0
+RefusalEndsCheck (shaped.Shape tables) = Unit {0}
+RefusalEndsCheck (shaped.Refused a) = EndsCheck a.status

@@ -17,3 +17,4 @@ pub mod Run
 pub mod Answering
 pub mod Answered
 pub mod Checking
+pub mod Headline

@@ -4,7 +4,7 @@ ghost use Rattle.std.specs.Prelude.{◌≡◌, ◌<◌, ◌≤◌, ◌^◌, leng
 ghost use Rattle.byte_ends.specs.Shelf.{bytes_of, ReadFailed, ReadsOnly, SameFaults};
 ghost use Rattle.m3_tool.specs.Run.{EitherReadFailed, IsCheckAnswer, IsJudgement, IsWitnessAnswer, IsWitnessFileAnswer};
 ghost use Rattle.m3_tool.specs.Answered.{answer_of, IsFileReadOnce, IsReadOnce};
-ghost use Rattle.m3_tool.specs.Checking.{IsShaped, IsShapedFile, OnReadFault, UnlessReadFault};
+ghost use Rattle.m3_tool.specs.Checking.{EndsCheck, IsShaped, IsShapedFile, OnReadFault, RefusalEndsCheck, UnlessReadFault};
 
 use crate::answer::{Answer, fixed, made};
 use crate::judge::{Verdict, judge};
@@ -54,7 +54,8 @@ impl From<AllocError> for Stop {
 
 /// Whether the values satisfy the tables.
 fn judged(alloc: Global, store: &Store) -> Result<Answer, AllocError>
-    ensures { IfOk result (λ a. IsJudgement store.now.tables store.now.rows store.now.filling (answer_of a)) }
+    ensures judged { IfOk result (λ a. IsJudgement store.now.tables store.now.rows store.now.filling (answer_of a)) }
+    ensures kind { IfOk result (λ a. EndsCheck a.status) }
 {
     let violation = match judge(store) {
         Verdict::Satisfied => return Ok(fixed(Status::Yes, "satisfied\n")),
@@ -68,7 +69,8 @@ fn judged(alloc: Global, store: &Store) -> Result<Answer, AllocError>
 
 /// The answer to the bytes of a witness.
 fn witness_answer(alloc: Global, shape: Shape, file: &[u8]) -> Result<Answer, AllocError>
-    ensures { IfOk result (λ a. IsWitnessAnswer shape file.now (answer_of a)) }
+    ensures due { IfOk result (λ a. IsWitnessAnswer shape file.now (answer_of a)) }
+    ensures kind { IfOk result (λ a. EndsCheck a.status) }
 {
     match read_witness(alloc, shape, file) {
         Ok(store) => Ok(judged(alloc, &store)?),
@@ -87,6 +89,7 @@ fn shape_of_text(alloc: Global, text: &[u8]) -> Result<Shaped, AllocError>
     requires { length text.now < 2 ^ 32 }
     ensures shape { IfOk result (IsShaped text.now) }
     ensures once { OnOk result (IsReadOnce text.now) }
+    ensures kind { IfOk result RefusalEndsCheck }
 {
     let tables = match read_tables(alloc, text) {
         Ok(tables) => tables,
@@ -109,6 +112,7 @@ fn shape_of_text(alloc: Global, text: &[u8]) -> Result<Shaped, AllocError>
 /// The shape of a file of tables.
 fn shape_of_file<S: Shelf>(alloc: Global, shelf: &mut S, name: &str) -> Result<Shaped, Stop>
     ensures shape { IsTrue (S.state shelf.old).told → IfOk result (IsShapedFile (bytes_of (S.state shelf.old) name.now)) }
+    ensures kind { IfOk result RefusalEndsCheck }
     ensures failed { OnReadFault result (ReadFailed (S.state shelf.old) (S.state shelf.new) name.now) }
     ensures quiet { UnlessReadFault result (SameFaults (S.state shelf.old) (S.state shelf.new)) }
     ensures reads_only { ReadsOnly (S.state shelf.old) (S.state shelf.new) }
@@ -132,6 +136,7 @@ fn answer_to_file<S: Shelf>(
     shape: Shape,
 ) -> Result<Answer, Stop>
     ensures due { IsTrue (S.state shelf.old).told → IfOk result (λ a. IsWitnessFileAnswer shape (bytes_of (S.state shelf.old) name.now) (answer_of a)) }
+    ensures kind { IfOk result (λ a. EndsCheck a.status) }
     ensures failed { OnReadFault result (ReadFailed (S.state shelf.old) (S.state shelf.new) name.now) }
     ensures quiet { UnlessReadFault result (SameFaults (S.state shelf.old) (S.state shelf.new)) }
     ensures reads_only { ReadsOnly (S.state shelf.old) (S.state shelf.new) }
@@ -156,6 +161,7 @@ pub(crate) fn check<S: Shelf>(
 ) -> Result<Answer, Stop>
     ensures due { IsTrue (S.state shelf.old).told → IfOk result (λ a. IsCheckAnswer (bytes_of (S.state shelf.old) tables.now) (bytes_of (S.state shelf.old) witness.now) (answer_of a)) }
     ensures once { IsTrue (S.state shelf.old).told → OnOk result (IsFileReadOnce (bytes_of (S.state shelf.old) tables.now)) }
+    ensures kind { IfOk result (λ a. EndsCheck a.status) }
     ensures failed { OnReadFault result (EitherReadFailed (S.state shelf.old) (S.state shelf.new) tables.now witness.now) }
     ensures quiet { UnlessReadFault result (SameFaults (S.state shelf.old) (S.state shelf.new)) }
     ensures reads_only { ReadsOnly (S.state shelf.old) (S.state shelf.new) }

@@ -6,6 +6,7 @@ mod check;
 pub mod judge;
 pub mod lines;
 pub mod resolve;
+pub mod run;
 pub mod shape;
 pub mod status;
 pub mod size;
