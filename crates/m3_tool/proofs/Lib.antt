@@ -13,3 +13,4 @@ pub mod Members
 pub mod KeptWitness
 pub mod Once
 pub mod Runs
+pub mod Violated
