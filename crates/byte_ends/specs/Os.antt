@@ -11,7 +11,8 @@ untold_shelf counts = record {
   read_faults = counts.reads;
   write_faults = counts.writes;
   read_faults_of = λ name. 0;
-  write_faults_of = λ name. 0 }
+  write_faults_of = λ name. 0;
+}
 
 -- a sink that tells no bytes, with this count of faults
 abbrev pub untold_sink : ℕ → SinkState

@@ -1,13 +1,12 @@
 ghost use Rattle.std.specs.Prelude.{◌≡◌, ℕ, ◌<◌, ◌≤◌, ◌↔◌, [], ◌++◌, length, take, vec_len, vec_capacity, IsErr, IfOk, OnOk, OnErr};
 ghost use Rattle.byte_ends.specs.MemSink.{MemSinkState, sink_state, PutFails, put_count, after_put, after_failed_put};
 
-use std::alloc::Global;
-use std::marker::Model;
-
 use crate::NoMemory;
 use crate::counts::raise;
 use crate::failed::Failed;
 use crate::sink::Sink;
+use std::alloc::Global;
+use std::marker::Model;
 
 /// A sink in memory, which takes pieces of at most `chunk` bytes and fails at listed calls.
 ///
@@ -26,12 +25,13 @@ impl Model for MemSink {
     ghost Value = { MemSinkState };
 
     ghost view = { λ sink. record {
-        chunk = sink.chunk;
-        failing = sink.failing.items;
-        calls = sink.calls;
-        bytes = sink.bytes.items;
-        room = sink.room;
-        faults = sink.faults } };
+      chunk = sink.chunk;
+      failing = sink.failing.items;
+      calls = sink.calls;
+      bytes = sink.bytes.items;
+      room = sink.room;
+      faults = sink.faults;
+    } };
 
     // The memory for the room is taken.
     ghost invariant = { λ sink. (1 ≤ sink.chunk) × (vec_len sink.bytes ≤ sink.room) × (sink.room ≤ vec_capacity sink.bytes) };
@@ -39,13 +39,31 @@ impl Model for MemSink {
 
 impl MemSink {
     /// An empty sink whose calls of these numbers fail. Takes the memory for `room` bytes.
-    pub fn new(alloc: Global, chunk: usize, failing: Vec<u64>, room: usize) -> Result<Self, NoMemory>
+    pub fn new(
+        alloc: Global,
+        chunk: usize,
+        failing: Vec<u64>,
+        room: usize,
+    ) -> Result<Self, NoMemory>
         requires { 1 ≤ chunk }
         ensures { IfOk result (λ sink. sink ≡ record {
-            chunk = chunk; failing = failing.items; calls = 0; bytes = []; room = room; faults = 0 }) }
+          chunk = chunk;
+          failing = failing.items;
+          calls = 0;
+          bytes = [];
+          room = room;
+          faults = 0;
+        }) }
     {
         let bytes = Vec::with_capacity(alloc, room)?;
-        Ok(MemSink { chunk, failing, calls: 0, bytes, room, faults: 0 })
+        Ok(MemSink {
+            chunk,
+            failing,
+            calls: 0,
+            bytes,
+            room,
+            faults: 0,
+        })
     }
 
     /// The bytes that were put.

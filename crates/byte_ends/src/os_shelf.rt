@@ -3,16 +3,14 @@ ghost use Rattle.byte_ends.specs.Counts.{FaultCounts};
 ghost use Rattle.byte_ends.specs.Os.{untold_shelf};
 ghost use Rattle.byte_ends.specs.Shelf.{Takes};
 
-use std::fs;
-use std::fs::OpenOptions;
-use std::io;
-use std::io::{ErrorKind, Read, Seek, SeekFrom, Write};
-use std::marker::Model;
-use std::rt::Files;
-
 use crate::counts::raise;
 use crate::failed::Failed;
 use crate::shelf::Shelf;
+use std::fs::OpenOptions;
+use std::io::{ErrorKind, Read, Seek, SeekFrom, Write};
+use std::marker::Model;
+use std::rt::Files;
+use std::{fs, io};
 
 /// Real files, named by their paths. Clauses know nothing of their bytes.
 ///
@@ -35,7 +33,11 @@ impl<'a, R: Files> OsShelf<'a, R> {
     pub fn new(runtime: &'a R) -> Self
         ensures { result ≡ record { reads = 0; writes = 0 } }
     {
-        OsShelf { runtime, read_faults: 0, write_faults: 0 }
+        OsShelf {
+            runtime,
+            read_faults: 0,
+            write_faults: 0,
+        }
     }
 }
 

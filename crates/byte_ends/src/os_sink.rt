@@ -1,11 +1,10 @@
 ghost use Rattle.std.specs.Prelude.{◌≡◌, ℕ};
 ghost use Rattle.byte_ends.specs.Os.{untold_sink};
 
-use std::marker::Model;
-
 use crate::counts::raise;
 use crate::failed::Failed;
 use crate::sink::Sink;
+use std::marker::Model;
 
 /// Standard output. Clauses know nothing of its bytes.
 #[derive(Drop)]

@@ -1,3 +1,12 @@
 pub mod ShapeSteps
 pub mod Searching
 pub mod Products
+pub mod HexDigits
+pub mod CeilLog
+pub mod Bits
+pub mod ByteDigits
+pub mod ColumnValues
+pub mod Following
+pub mod Padding
+pub mod Members
+pub mod KeptWitness

@@ -2,10 +2,14 @@ pub mod Steps
 pub mod Size
 pub mod Value
 pub mod Shape
-pub mod Gives
+pub mod ShapeGives
 pub mod Digits
 pub mod Filling
 pub mod Satisfies
 pub mod Witness
+pub mod WitnessGives
 pub mod Stored
 pub mod Judging
+pub mod Status
+pub mod Command
+pub mod Lines

@@ -1,16 +1,25 @@
 -- What a store holds.
-use Rattle.std.specs.Prelude.{ℕ, ◌≡◌, ◌≤◌, List, length, slice_index}
+use Rattle.std.specs.Prelude.{ℕ, ◌≡◌, ◌^◌, ◌<◌, ◌≤◌, List, length, slice_get, slice_index, Option, Some, option_and_then, IsSomeAnd}
+use Rattle.m3_tool.specs.declared.shape.ColumnShape.{ColumnShape}
 use Rattle.m3_tool.specs.declared.shape.TableShape.{TableShape}
 use Rattle.m3_tool.specs.Size.{size_log, max_size_log}
+use Rattle.m3_tool.specs.Digits.{number_of_bytes}
 use Rattle.m3_tool.specs.Filling.{Filling}
+use Rattle.m3_tool.specs.Witness.{bits_of, max_rows}
 
 pub record Stored : Type 0 where
   pub tables : List TableShape
   pub rows : List ℕ
   pub filling : Filling
 
+-- the bytes of column c of table t
+abbrev pub bytes_at : List (List (List ℕ)) → ℕ → ℕ → Option (List ℕ)
+bytes_at bytes t c = option_and_then (λ columns. slice_get columns c) (slice_get bytes t)
+
 -- bytes for each column, which spell no bit past the column's rows
 pub record IsStored (tables : List TableShape) (rows : List ℕ) (bytes : List (List (List ℕ))) : Type 0 where
   pub counts : length rows ≡ length tables
-  pub few : (t : ℕ) → slice_index rows t ≤ 1048576
+  pub few : (t : ℕ) → slice_index rows t ≤ max_rows
   pub small : size_log tables rows ≤ max_size_log
+  pub columns : (t c : ℕ) (table : TableShape) (column : ColumnShape) → slice_get tables t ≡ Some table → slice_get table.columns c ≡ Some column
+      → IsSomeAnd (bytes_at bytes t c) (λ b. number_of_bytes b < 2 ^ bits_of (slice_index rows t) column)

@@ -56,6 +56,10 @@ abbrev pub objects_of : ℕ → List TableShape → Members → Result (List (Me
 objects_of t [] whole = Ok []
 objects_of t (table ∷ tables) whole = object_of t table whole >>= (λ object. objects_of (t + 1) tables whole >>= (λ objects. Ok (object ∷ objects)))
 
+-- the number of rows of each table
+abbrev pub rows_of_tables : List TableShape → Members → Result (List ℕ) WitnessStop
+rows_of_tables tables whole = objects_of 0 tables whole >>= (λ objects. Ok (map (λ o. o.1) objects))
+
 -- the bits of a column's rows
 abbrev pub bits_of : ℕ → ColumnShape → ℕ
 bits_of rows column = rows * 2 ^ (column.log_values + column.level)
@@ -105,15 +109,20 @@ pub record Witness : Type 0 where
 abbrev pub within_size : List TableShape → List ℕ → Result (List ℕ) WitnessStop
 within_size tables rows = if nat_lt max_size_log (size_log tables rows) then Err (TooLarge (size_log tables rows)) else Ok rows
 
+-- the witness whose tables have these objects
+abbrev pub witness_of_objects : List TableShape → Members → List (Members × ℕ) → Result Witness WitnessStop
+witness_of_objects tables whole objects =
+    within_size tables (map (λ o. o.1) objects) >>= (λ rows.
+    tables_bytes 0 tables objects >>= (λ bytes.
+    unless (not (has_other (table_names tables) whole)) Whole ExtraTable (record { rows = rows; bytes = bytes })))
+
 -- the witness that a file gives to tables, or the first fault in this order
 abbrev pub witness_of : List TableShape → List ℕ → Result Witness WitnessStop
 witness_of tables file =
     or_refuse Whole NotJson (json_of file) >>= (λ json.
     or_refuse Whole NotAnObject (as_object json) >>= (λ whole.
     objects_of 0 tables whole >>= (λ objects.
-    within_size tables (map (λ o. o.1) objects) >>= (λ rows.
-    tables_bytes 0 tables objects >>= (λ bytes.
-    unless (not (has_other (table_names tables) whole)) Whole ExtraTable (record { rows = rows; bytes = bytes }))))))
+    witness_of_objects tables whole objects)))
 
 -- the values of columns with these bytes
 abbrev pub table_values : ℕ → List ColumnShape → List (List ℕ) → List (List ℕ)

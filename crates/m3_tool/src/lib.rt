@@ -2,7 +2,10 @@
 #![tactic(auto)]
 
 pub mod judge;
+pub mod lines;
 pub mod resolve;
 pub mod shape;
+pub mod status;
+pub mod size;
 pub mod store;
 pub mod witness;

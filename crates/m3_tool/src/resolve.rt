@@ -5,7 +5,7 @@ ghost use Rattle.std.specs.List.{list_any};
 ghost use Rattle.std.specs.Str.{bytes_eq};
 ghost use Rattle.table_text.specs.Valid.{ItemLevelsFit};
 ghost use Rattle.m3_tool.specs.Shape.{TableFits, all_some, begun_table, max_columns, max_tables, number_of_name, resolved, shape_of, with_column, with_constraint, with_items};
-ghost use Rattle.m3_tool.specs.Gives.{Gives};
+ghost use Rattle.m3_tool.specs.ShapeGives.{Gives};
 ghost use Rattle.m3_tool.specs.Value.{degree};
 
 use crate::shape::{

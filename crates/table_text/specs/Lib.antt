@@ -3,3 +3,7 @@ pub mod Lexing
 pub mod Grammar
 pub mod Valid
 pub mod Faults
+pub mod Machine
+pub mod Shown
+pub mod Reading
+pub mod Steps

@@ -1,11 +1,20 @@
 //! The language of tables: its syntax tree, and the reader of a text.
 #![tactic(auto)]
 
+mod body;
+mod byte_classes;
 pub mod decl;
 pub mod expr;
 pub mod fault;
+mod formula;
+mod lexer;
+mod number;
+mod progress;
 pub mod read;
+mod refusal;
+mod state;
 pub mod tables;
+mod token;
 
 pub use decl::{Decl, Decls, Form, Item, Numbers, Side, TableItems, Term, Terms};
 pub use expr::{Expr, Exprs, Name, Names};

@@ -33,6 +33,14 @@ impl Tables {
     ghost use Rattle.std.specs.Prelude.{◌≤◌};
     ghost use Rattle.table_text.specs.Valid.{LevelsFit, declarations};
 
+    pub(crate) fn new(decls: Decls) -> Tables
+        requires levels { LevelsFit decls }
+        requires few { declarations decls ≤ 65535 }
+        ensures { result ≡ decls }
+    {
+        Tables { decls }
+    }
+
     /// The declarations.
     pub fn decls(&self) -> &[Decl]
         ensures all { result.now ≡ self.now }

@@ -16,7 +16,7 @@ returns-in-Some c =
     let all = c.tables-table-items.ensures.all ∙ c.shape.ensures in
     let item = rw all at c.table-item.is in
     let below = rw all at c.loop-number-test.true in
-    let found = rw c.rows-rows.ensures.all at c.in-Some.ensures in
+    let found = rw c.rows-rows.ensures.value at c.in-Some.ensures in
     found_in_table c.args.store.now.filling c.args.store.now.tables c.args.store.now.rows c.loop-number.number c.table-item.result c.in-Some.violation (slice_get_read _ _ _ _ refl below item) c.loop-number.invariant found.0 found.1
 
 pub loop-number-preserved : goal.loop-number-preserved
@@ -24,7 +24,7 @@ loop-number-preserved c =
     let all = c.tables-table-items.ensures.all ∙ c.shape.ensures in
     let item = rw all at c.table-item.is in
     let below = rw all at c.loop-number-test.true in
-    let none = rw c.rows-rows.ensures.all at c.in_default.ensures in
+    let none = rw c.rows-rows.ensures.value at c.in_default.ensures in
     TablesAreZero-more c.args.store.now.filling c.args.store.now.tables c.args.store.now.rows c.loop-number.number c.table-item.result (slice_get_read _ _ _ _ refl below item) c.loop-number.invariant none
 
 pub returns : goal.returns

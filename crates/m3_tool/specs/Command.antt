@@ -1,0 +1,17 @@
+-- The commands, and the words that mean each.
+use Rattle.std.specs.Prelude.{ℕ, List, [], ◌∷◌, codes, if◌then◌else◌, Option, Some, None}
+use Rattle.std.specs.Str.{bytes_eq}
+
+pub data Command : Type 0 where
+  -- says whether the witness in the second file satisfies the tables in the first
+  check : List ℕ → List ℕ → Command
+  help : Command
+  version : Command
+
+-- the command that words mean, if they fit a pattern
+abbrev pub command_of : List (List ℕ) → Option Command
+command_of [] = None
+command_of (word ∷ []) = if bytes_eq word (codes "--help") then Some help else (if bytes_eq word (codes "--version") then Some version else None)
+command_of (word ∷ a ∷ []) = None
+command_of (word ∷ a ∷ b ∷ []) = if bytes_eq word (codes "check") then Some (check a b) else None
+command_of (word ∷ a ∷ b ∷ c ∷ more) = None

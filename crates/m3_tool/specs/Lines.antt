@@ -1,0 +1,90 @@
+-- The lines that are printed.
+use Rattle.std.specs.Prelude.{ℕ, false, List, [], ◌∷◌, ◌++◌, codes}
+use Rattle.std.specs.Fmt.{decimal, digits}
+use Rattle.table_text.specs.declared.fault.TextFault.{TextFault}
+use Rattle.table_text.specs.declared.fault.TextKind.{TextKind}
+use Rattle.table_text.specs.declared.fault.TextKind.TheVariants as text
+use Rattle.m3_tool.specs.declared.resolve.ShapeFault.{ShapeFault}
+use Rattle.m3_tool.specs.declared.resolve.ShapeKind.{ShapeKind}
+use Rattle.m3_tool.specs.declared.resolve.ShapeKind.TheVariants as shape
+use Rattle.m3_tool.specs.declared.witness.WitnessPlace.{WitnessPlace}
+use Rattle.m3_tool.specs.declared.witness.WitnessPlace.TheVariants.{Whole, Table, Column}
+use Rattle.m3_tool.specs.declared.witness.WitnessKind.{WitnessKind}
+use Rattle.m3_tool.specs.declared.witness.WitnessKind.TheVariants as witness
+use Rattle.m3_tool.specs.declared.witness.WitnessFault.{WitnessFault}
+use Rattle.m3_tool.specs.declared.shape.ConstraintShape.{ConstraintShape}
+use Rattle.m3_tool.specs.declared.shape.TableShape.{TableShape}
+use Rattle.m3_tool.specs.declared.judge.Violation.{Violation}
+
+-- a number in hexadecimal digits
+abbrev pub hex : ℕ → List ℕ
+hex n = digits 16 false n
+
+abbrev pub satisfied_line : List ℕ
+satisfied_line = codes "satisfied\n"
+
+-- which table and which constraint a violation is of
+abbrev pub violated : TableShape → ConstraintShape → List ℕ
+violated table constraint = codes "violated: table " ++ table.name ++ codes ", zero " ++ constraint.name
+
+abbrev pub violation_line : TableShape → ConstraintShape → Violation → List ℕ
+violation_line table constraint v =
+    violated table constraint ++ codes ", row " ++ decimal v.row ++ codes ", index " ++ decimal v.index ++ codes ", value 0x" ++ hex v.value ++ codes "\n"
+
+abbrev pub text_kind_name : TextKind → List ℕ
+text_kind_name text.NotText = codes "NotText"
+text_kind_name text.Unexpected = codes "Unexpected"
+text_kind_name text.NumberTooWide = codes "NumberTooWide"
+text_kind_name text.NameTooLong = codes "NameTooLong"
+text_kind_name text.TooDeep = codes "TooDeep"
+text_kind_name text.TooMany = codes "TooMany"
+text_kind_name text.NotBuilt = codes "NotBuilt"
+
+abbrev pub text_fault_line : TextFault → List ℕ
+text_fault_line fault = codes "tables: " ++ text_kind_name fault.kind ++ codes " at byte " ++ decimal fault.place ++ codes "\n"
+
+abbrev pub shape_kind_name : ShapeKind → List ℕ
+shape_kind_name shape.UnknownName = codes "UnknownName"
+shape_kind_name shape.DoubleName = codes "DoubleName"
+shape_kind_name shape.DegreeTooHigh = codes "DegreeTooHigh"
+shape_kind_name shape.TooMany = codes "TooMany"
+shape_kind_name shape.NotBuilt = codes "NotBuilt"
+
+abbrev pub shape_fault_line : ShapeFault → List ℕ
+shape_fault_line fault = codes "tables: " ++ shape_kind_name fault.kind ++ codes " at item " ++ decimal fault.item ++ codes "\n"
+
+abbrev pub witness_kind_name : WitnessKind → List ℕ
+witness_kind_name witness.NotJson = codes "NotJson"
+witness_kind_name witness.NotAnObject = codes "NotAnObject"
+witness_kind_name witness.MissingTable = codes "MissingTable"
+witness_kind_name witness.BadRows = codes "BadRows"
+witness_kind_name witness.MissingColumn = codes "MissingColumn"
+witness_kind_name witness.NotAText = codes "NotAText"
+witness_kind_name witness.BadHex = codes "BadHex"
+witness_kind_name witness.WrongLength = codes "WrongLength"
+witness_kind_name witness.PaddingBits = codes "PaddingBits"
+witness_kind_name witness.ExtraColumn = codes "ExtraColumn"
+witness_kind_name witness.ExtraTable = codes "ExtraTable"
+
+abbrev pub place_name : WitnessPlace → List ℕ
+place_name Whole = []
+place_name (Table t) = codes " at table " ++ decimal t
+place_name (Column t c) = codes " at table " ++ decimal t ++ (codes " column " ++ decimal c)
+
+abbrev pub witness_fault_line : WitnessFault → List ℕ
+witness_fault_line fault = codes "witness: " ++ witness_kind_name fault.kind ++ place_name fault.place ++ codes "\n"
+
+abbrev pub too_large_line : ℕ → List ℕ
+too_large_line log_bits = codes "too large: log bits " ++ decimal log_bits ++ codes "\n"
+
+abbrev pub too_long_line : ℕ → List ℕ
+too_long_line limit = codes "too long: more than " ++ decimal limit ++ codes " bytes\n"
+
+abbrev pub words_line : List ℕ
+words_line = codes "words\n"
+
+abbrev pub read_fault_line : List ℕ
+read_fault_line = codes "read fault\n"
+
+abbrev pub no_memory_line : List ℕ
+no_memory_line = codes "no memory\n"

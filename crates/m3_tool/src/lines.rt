@@ -1,0 +1,212 @@
+//! The lines that are printed.
+
+ghost use Rattle.std.specs.Prelude.{◌≡◌, ◌++◌, ◌<◌, IfOk, OnOk, codes, false};
+ghost use Rattle.std.specs.Fmt.{decimal, digit_glyph};
+ghost use Rattle.m3_tool.specs.Lines.{hex, place_name, shape_fault_line, shape_kind_name, text_fault_line, text_kind_name, too_large_line, too_long_line, violated, violation_line, witness_fault_line, witness_kind_name};
+
+use crate::judge::Violation;
+use crate::resolve::{ShapeFault, ShapeKind};
+use crate::shape::{ConstraintShape, TableShape};
+use crate::witness::{WitnessFault, WitnessKind, WitnessPlace};
+use std::alloc::{AllocError, Global};
+use table_text::{TextFault, TextKind};
+use tower_field::Tower;
+
+/// The digit of a number below 16.
+fn hex_digit(n: u8) -> u8
+    requires { n < 16 }
+    ensures { result ≡ digit_glyph false n }
+{
+    if n < 10 { b'0' + n } else { b'a' + (n - 10) }
+}
+
+/// A number in hexadecimal digits, without leading zeros.
+fn hex(alloc: Global, n: u128) -> Result<Vec<u8>, AllocError>
+    ensures { IfOk result (λ text. text.items ≡ hex n) }
+{
+    let mut text = Vec::new(alloc);
+    let mut rest = n;
+    for _digit in 0..64u32 {
+        text.insert(0, hex_digit((rest % 16) as u8))?;
+        rest /= 16;
+        if rest == 0 {
+            return Ok(text);
+        }
+    }
+    Ok(text)
+}
+
+fn push(line: &mut Vec<u8>, text: &[u8]) -> Result<(), AllocError>
+    ensures { OnOk result (line.new.items ≡ line.old.items ++ text.now) }
+{
+    line.extend_from_slice(text)
+}
+
+fn push_decimal(alloc: Global, line: &mut Vec<u8>, n: u32) -> Result<(), AllocError>
+    ensures { OnOk result (line.new.items ≡ line.old.items ++ decimal n) }
+{
+    let text = format!(in alloc; "{n}")?;
+    push(line, text.as_bytes())
+}
+
+fn push_hex(alloc: Global, line: &mut Vec<u8>, n: u128) -> Result<(), AllocError>
+    ensures { OnOk result (line.new.items ≡ line.old.items ++ hex n) }
+{
+    let text = hex(alloc, n)?;
+    push(line, text.as_slice())
+}
+
+/// Which table and which constraint a violation is of, as its line begins.
+fn violated(
+    alloc: Global,
+    table: &TableShape,
+    constraint: &ConstraintShape,
+) -> Result<Vec<u8>, AllocError>
+    ensures { IfOk result (λ line. line.items ≡ violated table.now constraint.now) }
+{
+    let mut line = Vec::new(alloc);
+    push(&mut line, b"violated: table ")?;
+    push(&mut line, table.name.as_slice())?;
+    push(&mut line, b", zero ")?;
+    push(&mut line, constraint.name.as_slice())?;
+    Ok(line)
+}
+
+/// The line of a violation.
+pub fn violation_line(
+    alloc: Global,
+    table: &TableShape,
+    constraint: &ConstraintShape,
+    violation: Violation,
+) -> Result<Vec<u8>, AllocError>
+    ensures { IfOk result (λ line. line.items ≡ violation_line table.now constraint.now violation) }
+{
+    let mut line = violated(alloc, table, constraint)?;
+    push(&mut line, b", row ")?;
+    push_decimal(alloc, &mut line, violation.row)?;
+    push(&mut line, b", index ")?;
+    push_decimal(alloc, &mut line, violation.index)?;
+    push(&mut line, b", value 0x")?;
+    push_hex(alloc, &mut line, violation.value.number())?;
+    push(&mut line, b"\n")?;
+    Ok(line)
+}
+
+fn text_kind_name(kind: TextKind) -> &'static str
+    ensures { result.now ≡ text_kind_name kind }
+{
+    match kind {
+        TextKind::NotText => "NotText",
+        TextKind::Unexpected => "Unexpected",
+        TextKind::NumberTooWide => "NumberTooWide",
+        TextKind::NameTooLong => "NameTooLong",
+        TextKind::TooDeep => "TooDeep",
+        TextKind::TooMany => "TooMany",
+        TextKind::NotBuilt => "NotBuilt",
+    }
+}
+
+/// The line of a fault of a text.
+pub fn text_fault_line(alloc: Global, fault: TextFault) -> Result<Vec<u8>, AllocError>
+    ensures { IfOk result (λ line. line.items ≡ text_fault_line fault) }
+{
+    let name = text_kind_name(fault.kind);
+    let place = fault.place;
+    let line = format!(in alloc; "tables: {name} at byte {place}\n")?;
+    Ok(line.into_bytes())
+}
+
+fn shape_kind_name(kind: ShapeKind) -> &'static str
+    ensures { result.now ≡ shape_kind_name kind }
+{
+    match kind {
+        ShapeKind::UnknownName => "UnknownName",
+        ShapeKind::DoubleName => "DoubleName",
+        ShapeKind::DegreeTooHigh => "DegreeTooHigh",
+        ShapeKind::TooMany => "TooMany",
+        ShapeKind::NotBuilt => "NotBuilt",
+    }
+}
+
+/// The line of a fault of a shape.
+pub fn shape_fault_line(alloc: Global, fault: ShapeFault) -> Result<Vec<u8>, AllocError>
+    ensures { IfOk result (λ line. line.items ≡ shape_fault_line fault) }
+{
+    let name = shape_kind_name(fault.kind);
+    let item = fault.item;
+    let line = format!(in alloc; "tables: {name} at item {item}\n")?;
+    Ok(line.into_bytes())
+}
+
+fn witness_kind_name(kind: WitnessKind) -> &'static str
+    ensures { result.now ≡ witness_kind_name kind }
+{
+    match kind {
+        WitnessKind::NotJson => "NotJson",
+        WitnessKind::NotAnObject => "NotAnObject",
+        WitnessKind::MissingTable => "MissingTable",
+        WitnessKind::BadRows => "BadRows",
+        WitnessKind::MissingColumn => "MissingColumn",
+        WitnessKind::NotAText => "NotAText",
+        WitnessKind::BadHex => "BadHex",
+        WitnessKind::WrongLength => "WrongLength",
+        WitnessKind::PaddingBits => "PaddingBits",
+        WitnessKind::ExtraColumn => "ExtraColumn",
+        WitnessKind::ExtraTable => "ExtraTable",
+    }
+}
+
+/// The line of a fault of a witness.
+pub fn witness_fault_line(alloc: Global, fault: WitnessFault) -> Result<Vec<u8>, AllocError>
+    ensures { IfOk result (λ line. line.items ≡ witness_fault_line fault) }
+{
+    let mut line = Vec::new(alloc);
+    push(&mut line, b"witness: ")?;
+    push(&mut line, witness_kind_name(fault.kind).as_bytes())?;
+    push_place(alloc, &mut line, fault.place)?;
+    push(&mut line, b"\n")?;
+    Ok(line)
+}
+
+fn push_place(alloc: Global, line: &mut Vec<u8>, place: WitnessPlace) -> Result<(), AllocError>
+    ensures { OnOk result (line.new.items ≡ line.old.items ++ place_name place) }
+{
+    match place {
+        WitnessPlace::Whole => Ok(()),
+        WitnessPlace::Table(table) => push_table(alloc, line, table),
+        WitnessPlace::Column(table, column) => {
+            push_table(alloc, line, table)?;
+            push_column(alloc, line, column)
+        }
+    }
+}
+
+fn push_table(alloc: Global, line: &mut Vec<u8>, table: u32) -> Result<(), AllocError>
+    ensures { OnOk result (line.new.items ≡ line.old.items ++ (codes " at table " ++ decimal table)) }
+{
+    push(line, b" at table ")?;
+    push_decimal(alloc, line, table)
+}
+
+fn push_column(alloc: Global, line: &mut Vec<u8>, column: u32) -> Result<(), AllocError>
+    ensures { OnOk result (line.new.items ≡ line.old.items ++ (codes " column " ++ decimal column)) }
+{
+    push(line, b" column ")?;
+    push_decimal(alloc, line, column)
+}
+
+/// The line of columns that take too many bits.
+pub fn too_large_line(alloc: Global, log_bits: u32) -> Result<Vec<u8>, AllocError>
+    ensures { IfOk result (λ line. line.items ≡ too_large_line log_bits) }
+{
+    let line = format!(in alloc; "too large: log bits {log_bits}\n")?;
+    Ok(line.into_bytes())
+}
+
+/// The line of a file that has too many bytes.
+pub fn too_long_line(alloc: Global, limit: u64) -> Result<Vec<u8>, AllocError>
+    ensures { IfOk result (λ line. line.items ≡ too_long_line limit) }
+{
+    let line = format!(in alloc; "too long: more than {limit} bytes\n")?;
+    Ok(line.into_bytes())
+}

@@ -1,0 +1,188 @@
+-- The machine reads what each tree spells, and has then what the tree means.
+use Rattle.std.proofs.Common.{◌≡◌, ℕ, zero, suc, ◌≤◌, List, [], ◌∷◌, ◌++◌, Option, Some, None, refl, sym, ◌∙◌, ap, subst, append_assoc, arith}
+use Rattle.std.proofs.lemmas.List.{append-nil}
+use Rattle.std.proofs.lemmas.Option.{none-some, same_Some}
+use Rattle.std.specs.Prelude.{map, option_map, option_and_then}
+use Rattle.std.specs.List.{flat_map}
+use Rattle.table_text.specs.Lexing.{Token, name, mark}
+use Rattle.table_text.specs.Grammar.{Sum, first_term, plus, Product, first_factor, times, Atom, constant, column, parens, ItemTree, column_item, zero_item, TableTree, FileTree, sum_tokens, product_tokens, atom_tokens, atom_expr, terms, factors, sum_of, product_of, type_word, item_tokens, table_tokens, file_tokens, item_of, table_of}
+use Rattle.table_text.specs.Machine.{level_of, back_in, innermost, body_at, state_at, step, run, start}
+use Rattle.table_text.specs.declared.expr.Expr.{Expr}
+use Rattle.table_text.specs.declared.decl.Item.{Item}
+use Rattle.table_text.specs.declared.decl.Item.TheVariants as item
+use Rattle.table_text.specs.declared.decl.Decl.{Decl}
+use Rattle.table_text.specs.declared.formula.Frame.{Frame}
+use Rattle.table_text.specs.declared.formula.Formula.{Formula}
+use Rattle.table_text.specs.declared.body.ItemStage.{ItemStage}
+use Rattle.table_text.specs.declared.body.ItemStage.TheVariants as its
+use Rattle.table_text.specs.declared.state.Stage.TheVariants as stage
+use Rattle.table_text.specs.declared.state.State.{State}
+use Rattle.table_text.proofs.Stacks.{split_last-append}
+
+-- from s the tokens lead to t, whatever comes behind them
+pub record Leads (s : State) (tokens : List Token) (t : State) : Type 0 where
+  pub on : (rest : List Token) → run s (tokens ++ rest) ≡ run t rest
+
+pub joined : (s t u : State) (xs ys : List Token) → Leads s xs t → Leads t ys u → Leads s (xs ++ ys) u
+joined s t u xs ys a b = record { on = λ rest. ap (run s) (append_assoc xs ys rest) ∙ a.on (ys ++ rest) ∙ b.on rest }
+
+-- one token that the machine takes
+one : (s t : State) (token : Token) → step s token ≡ Some t → Leads s (token ∷ []) t
+one s t token e = record { on = λ rest. ap (option_and_then (λ v. run v rest)) e }
+
+first : (s t u : State) (token : Token) (tokens : List Token) → step s token ≡ Some t → Leads t tokens u → Leads s (token ∷ tokens) u
+first s t u token tokens e l = record { on = λ rest. ap (option_and_then (λ v. run v (tokens ++ rest))) e ∙ l.on rest }
+
+nothing : (s : State) → Leads s [] s
+nothing s = record { on = λ rest. refl }
+
+-- the place of an expression: the declarations, the table's name and items, and the constraint's name
+pub record Place : Type 0 where
+  pub decls : List Decl
+  pub table : List ℕ
+  pub items : List Item
+  pub zero : List ℕ
+
+abbrev formula : List Frame → List Expr → List Expr → Formula
+formula o ts fs = record { outer = o; terms = ts; factors = fs }
+
+abbrev in_table : Place → ItemStage → State
+in_table at s = state_at at.decls (stage.Table at.table (body_at at.items s))
+
+abbrev before : Place → List Frame → List Expr → List Expr → State
+before at o ts fs = in_table at (its.Operand at.zero (formula o ts fs))
+
+abbrev behind : Place → List Frame → List Expr → List Expr → State
+behind at o ts fs = in_table at (its.Operator at.zero (formula o ts fs))
+
+abbrev frame : List Expr → List Expr → Frame
+frame ts fs = record { terms = ts; factors = fs }
+
+-- the terms of a sum before its last one, and the factors of that one
+abbrev front_terms : Sum → List Expr
+front_terms (first_term p) = []
+front_terms (plus s p) = terms s
+
+abbrev last_factors : Sum → List Expr
+last_factors (first_term p) = factors p
+last_factors (plus s p) = factors p
+
+terms-parts : (s : Sum) → front_terms s ++ product_of (last_factors s) ∷ [] ≡ terms s
+terms-parts (first_term p) = refl
+terms-parts (plus s p) = refl
+
+closes : (at : Place) (o : List Frame) (ts fs : List Expr) (s : Sum)
+    → step (behind at (o ++ frame ts fs ∷ []) (front_terms s) (last_factors s)) (mark 41) ≡ Some (behind at o ts (fs ++ atom_expr (parens s) ∷ []))
+closes at o ts fs s =
+    let f = formula (o ++ frame ts fs ∷ []) (front_terms s) (last_factors s) in
+    let into : Option Formula → Option State = λ g. option_map (λ b. state_at at.decls (stage.Table at.table b)) (option_map (λ h. body_at at.items (its.Operator at.zero h)) g) in
+    ap (λ r. into (option_map (back_in (innermost f)) r)) (split_last-append o (frame ts fs))
+    ∙ ap (λ ss. Some (behind at o ts (fs ++ sum_of ss ∷ []))) (terms-parts s)
+
+adds : (at : Place) (o : List Frame) (s : Sum) → step (behind at o (front_terms s) (last_factors s)) (mark 43) ≡ Some (before at o (terms s) [])
+adds at o s = ap (λ ts. Some (before at o ts [])) (terms-parts s)
+
+mutual
+  pub atom_read : (at : Place) (o : List Frame) (ts fs : List Expr) (a : Atom) → Leads (before at o ts fs) (atom_tokens a) (behind at o ts (fs ++ atom_expr a ∷ []))
+  atom_read at o ts fs (constant n) = one _ _ _ refl
+  atom_read at o ts fs (column w) = one _ _ _ refl
+  atom_read at o ts fs (parens s) = first _ (before at (o ++ frame ts fs ∷ []) [] []) _ _ _ refl
+      (joined _ _ _ (sum_tokens s) (mark 41 ∷ []) (sum_read at (o ++ frame ts fs ∷ []) s) (one _ _ _ (closes at o ts fs s)))
+
+  pub product_read : (at : Place) (o : List Frame) (ts : List Expr) (p : Product) → Leads (before at o ts []) (product_tokens p) (behind at o ts (factors p))
+  product_read at o ts (first_factor a) = atom_read at o ts [] a
+  product_read at o ts (times p a) = joined _ _ _ (product_tokens p) (mark 42 ∷ atom_tokens a) (product_read at o ts p)
+      (first _ (before at o ts (factors p)) _ _ _ refl (atom_read at o ts (factors p) a))
+
+  pub sum_read : (at : Place) (o : List Frame) (s : Sum) → Leads (before at o [] []) (sum_tokens s) (behind at o (front_terms s) (last_factors s))
+  sum_read at o (first_term p) = product_read at o [] p
+  sum_read at o (plus s p) = joined _ _ _ (sum_tokens s) (mark 43 ∷ product_tokens p) (sum_read at o s)
+      (first _ (before at o (terms s) []) _ _ _ (adds at o s) (product_read at o (terms s) p))
+
+-- ---- items
+
+level_of-type_word : (level : ℕ) → level ≤ 7 → level_of (type_word level) ≡ Some level
+level_of-type_word zero h = refl
+level_of-type_word (suc zero) h = refl
+level_of-type_word (suc (suc zero)) h = refl
+level_of-type_word (suc (suc (suc zero))) h = refl
+level_of-type_word (suc (suc (suc (suc zero)))) h = refl
+level_of-type_word (suc (suc (suc (suc (suc zero))))) h = refl
+level_of-type_word (suc (suc (suc (suc (suc (suc zero)))))) h = refl
+level_of-type_word (suc (suc (suc (suc (suc (suc (suc zero))))))) h = refl
+level_of-type_word (suc (suc (suc (suc (suc (suc (suc (suc n)))))))) h = absurd (omega arith)
+
+abbrev table_at : List Decl → List ℕ → List Item → ItemStage → State
+table_at ds w items s = state_at ds (stage.Table w (body_at items s))
+
+type_step : (ds : List Decl) (t : List ℕ) (items : List Item) (w : List ℕ) (level : ℕ) → level ≤ 7
+    → step (table_at ds t items (its.ColumnType w)) (name (type_word level)) ≡ Some (table_at ds t items (its.ColumnEnd w level))
+type_step ds t items w level h = ap (λ r. option_map (λ b. state_at ds (stage.Table t b)) (option_map (λ l. body_at items (its.ColumnEnd w l)) r)) (level_of-type_word level h)
+
+end_step : (ds : List Decl) (t : List ℕ) (items : List Item) (w : List ℕ) (s : Sum)
+    → step (table_at ds t items (its.Operator w (formula [] (front_terms s) (last_factors s)))) (mark 59) ≡ Some (table_at ds t (items ++ item.Zero w (sum_of (terms s)) ∷ []) its.Start)
+end_step ds t items w s = ap (λ ts. Some (table_at ds t (items ++ item.Zero w (sum_of ts) ∷ []) its.Start)) (terms-parts s)
+
+item_read : (ds : List Decl) (t : List ℕ) (items : List Item) (i : ItemTree) → Leads (table_at ds t items its.Start) (item_tokens i) (table_at ds t (items ++ item_of i ∷ []) its.Start)
+item_read ds t items (column_item w level h) =
+    first _ (table_at ds t items its.ColumnName) _ _ _ refl
+    (first _ (table_at ds t items (its.ColumnColon w)) _ _ _ refl
+    (first _ (table_at ds t items (its.ColumnType w)) _ _ _ refl
+    (first _ (table_at ds t items (its.ColumnEnd w level)) _ _ _ (type_step ds t items w level h)
+    (one _ _ _ refl))))
+item_read ds t items (zero_item w s) =
+    first _ (table_at ds t items its.ZeroName) _ _ _ refl
+    (first _ (table_at ds t items (its.ZeroColon w)) _ _ _ refl
+    (first _ (table_at ds t items (its.Operand w (formula [] [] []))) _ _ _ refl
+    (joined _ _ _ (sum_tokens s) (mark 59 ∷ []) (sum_read (record { decls = ds; table = t; items = items; zero = w }) [] s)
+    (one _ _ _ (end_step ds t items w s)))))
+
+items_read : (ds : List Decl) (t : List ℕ) (items : List Item) (is : List ItemTree) → Leads (table_at ds t items its.Start) (flat_map item_tokens is) (table_at ds t (items ++ map item_of is) its.Start)
+items_read ds t items [] = subst (λ (js : List Item). Leads (table_at ds t items its.Start) [] (table_at ds t js its.Start)) (sym (append-nil items)) (nothing _)
+items_read ds t items (i ∷ is) =
+    subst (λ (js : List Item). Leads (table_at ds t items its.Start) (item_tokens i ++ flat_map item_tokens is) (table_at ds t js its.Start)) (append_assoc items (item_of i ∷ []) (map item_of is))
+    (joined _ _ _ (item_tokens i) (flat_map item_tokens is) (item_read ds t items i) (items_read ds t (items ++ item_of i ∷ []) is))
+
+-- ---- tables
+
+table_read : (ds : List Decl) (t : TableTree) → Leads (state_at ds stage.File) (table_tokens t) (state_at (ds ++ table_of t ∷ []) stage.File)
+table_read ds t =
+    first _ (state_at ds stage.TableName) _ _ _ refl
+    (first _ (state_at ds (stage.TableBrace t.name)) _ _ _ refl
+    (first _ (table_at ds t.name [] its.Start) _ _ _ refl
+    (joined _ _ _ (flat_map item_tokens t.items) (mark 125 ∷ []) (items_read ds t.name [] t.items)
+    (one _ _ _ refl))))
+
+file_read : (ds : List Decl) (f : FileTree) → Leads (state_at ds stage.File) (file_tokens f) (state_at (ds ++ map table_of f) stage.File)
+file_read ds [] = subst (λ (es : List Decl). Leads (state_at ds stage.File) [] (state_at es stage.File)) (sym (append-nil ds)) (nothing _)
+file_read ds (t ∷ f) =
+    subst (λ (es : List Decl). Leads (state_at ds stage.File) (table_tokens t ++ file_tokens f) (state_at es stage.File)) (append_assoc ds (table_of t ∷ []) (map table_of f))
+    (joined _ _ _ (table_tokens t) (file_tokens f) (table_read ds t) (file_read (ds ++ table_of t ∷ []) f))
+
+-- the machine reads each file, and has its declarations then
+pub accepts : (f : FileTree) → run start (file_tokens f) ≡ Some (state_at (map table_of f) stage.File)
+accepts f = ap (run start) (sym (append-nil (file_tokens f))) ∙ (file_read [] f).on []
+
+-- ---- prefixes
+
+pub record Reaches (s : State) (tokens : List Token) : Type 0 where
+  pub state : State
+  pub is : run s tokens ≡ Some state
+
+after_step : (o : Option State) (token : Token) (s : State) (xs ys : List Token) (t : State) → step s token ≡ o → ((u : State) → run u (xs ++ ys) ≡ Some t → Reaches u xs) → option_and_then (λ v. run v (xs ++ ys)) o ≡ Some t → Reaches s (token ∷ xs)
+after_step None token s xs ys t is more e = absurd (none-some t e)
+after_step (Some u) token s xs ys t is more e = let r = more u e in record { state = r.state; is = ap (option_and_then (λ v. run v xs)) is ∙ r.is }
+
+-- what stands before what the machine reads is read
+pub prefix_read : (s : State) (xs ys : List Token) (t : State) → run s (xs ++ ys) ≡ Some t → Reaches s xs
+prefix_read s [] ys t e = record { state = s; is = refl }
+prefix_read s (x ∷ xs) ys t e = after_step (step s x) x s xs ys t refl (λ u h. prefix_read u xs ys t h) e
+
+through : (o : Option State) (s t : State) (x : Token) (xs ys : List Token) → step s x ≡ o → option_and_then (λ v. run v xs) o ≡ Some t → ((u : State) → run u xs ≡ Some t → run u (xs ++ ys) ≡ run t ys)
+    → option_and_then (λ v. run v (xs ++ ys)) (step s x) ≡ run t ys
+through None s t x xs ys is e more = absurd (none-some t e)
+through (Some u) s t x xs ys is e more = ap (option_and_then (λ v. run v (xs ++ ys))) is ∙ more u e
+
+pub run-append : (s t : State) (xs ys : List Token) → run s xs ≡ Some t → run s (xs ++ ys) ≡ run t ys
+run-append s t [] ys e = ap (λ v. run v ys) (same_Some s t e)
+run-append s t (x ∷ xs) ys e = through (step s x) s t x xs ys refl e (λ u h. run-append u t xs ys h)

@@ -1,0 +1,19 @@
+-- The declarations of a file have levels that fit.
+use Rattle.std.proofs.Common.{List, [], ◌∷◌, subst, lit≤}
+use Rattle.std.specs.Prelude.{map}
+use Rattle.table_text.specs.Lexing.{Token}
+use Rattle.table_text.specs.Grammar.{ItemTree, column_item, zero_item, FileTree, item_of, table_of, IsFile}
+use Rattle.table_text.specs.Valid.{ItemLevelsFit, LevelsFit}
+use Rattle.table_text.specs.declared.decl.Decl.{Decl}
+
+items_fit : (items : List ItemTree) → ItemLevelsFit (map item_of items)
+items_fit [] = tt
+items_fit (column_item w level h ∷ items) = (h, lit≤ tt, items_fit items)
+items_fit (zero_item w s ∷ items) = items_fit items
+
+tables_fit : (f : FileTree) → LevelsFit (map table_of f)
+tables_fit [] = tt
+tables_fit (t ∷ f) = (items_fit t.items, tables_fit f)
+
+pub file_fits : (tokens : List Token) (decls : List Decl) → IsFile tokens decls → LevelsFit decls
+file_fits tokens decls (f, is, means) = subst LevelsFit means (tables_fit f)

@@ -1,0 +1,13 @@
+pub mod Stacks
+pub mod Digits
+pub mod Trees
+pub mod Completes
+pub mod Follows
+pub mod Pieces
+pub mod Walks
+pub mod Accepts
+pub mod Judged
+pub mod Verdicts
+pub mod Levels
+pub mod Clauses
+pub mod Declared

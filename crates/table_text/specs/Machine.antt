@@ -1,0 +1,165 @@
+-- The reader as a machine: what it has read, and what it becomes by one token more. None: the grammar has no such token there.
+use Rattle.std.specs.Prelude.{ℕ, ◌+◌, Bool, true, false, ◌&&◌, ◌==◌, if◌then◌else◌, List, [], ◌∷◌, ◌++◌, length, codes, Option, Some, None, option_map, option_and_then}
+use Rattle.std.specs.Str.{bytes_eq}
+use Rattle.table_text.specs.Lexing.{Token, name, reserved, number, mark, wrong}
+use Rattle.table_text.specs.Grammar.{sum_of, product_of, type_words}
+use Rattle.table_text.specs.Faults.{is_mark_of}
+use Rattle.table_text.specs.declared.expr.Expr.{Expr}
+use Rattle.table_text.specs.declared.expr.Expr.TheVariants as expr
+use Rattle.table_text.specs.declared.decl.Item.{Item}
+use Rattle.table_text.specs.declared.decl.Item.TheVariants as item
+use Rattle.table_text.specs.declared.decl.Decl.{Decl}
+use Rattle.table_text.specs.declared.decl.Decl.TheVariants as decl
+use Rattle.table_text.specs.declared.formula.Frame.{Frame}
+use Rattle.table_text.specs.declared.formula.Formula.{Formula}
+use Rattle.table_text.specs.declared.body.ItemStage.{ItemStage}
+use Rattle.table_text.specs.declared.body.ItemStage.TheVariants.{Start, ColumnName, ColumnColon, ColumnType, ColumnEnd, ZeroName, ZeroColon, Operand, Operator}
+use Rattle.table_text.specs.declared.body.Body.{Body}
+use Rattle.table_text.specs.declared.state.Stage.{Stage}
+use Rattle.table_text.specs.declared.state.Stage.TheVariants as stage
+use Rattle.table_text.specs.declared.state.State.{State}
+
+-- ---- what a token is
+
+abbrev pub name_of : Token → Option (List ℕ)
+name_of (name w) = Some w
+name_of (reserved w) = None
+name_of (number n) = None
+name_of (mark b) = None
+name_of (wrong kind) = None
+
+-- whether a token is this reserved word
+abbrev pub is_word : List ℕ → Token → Bool
+is_word word (name w) = false
+is_word word (reserved w) = bytes_eq w word
+is_word word (number n) = false
+is_word word (mark b) = false
+is_word word (wrong kind) = false
+
+-- the place of a word among words, from a number on
+abbrev pub place_among : ℕ → List (List ℕ) → List ℕ → Option ℕ
+place_among n [] w = None
+place_among n (word ∷ words) w = if bytes_eq w word then Some n else place_among (n + 1) words w
+
+-- the level of a type's word
+abbrev pub level_of : List ℕ → Option ℕ
+level_of w = place_among 0 type_words w
+
+-- ---- an expression that is being read
+
+-- a list without its last element, and that element
+abbrev pub put_front : {X : Type 0} → X → Option (List X × X) → List X × X
+put_front x None = ([], x)
+put_front x (Some (xs, y)) = (x ∷ xs, y)
+
+abbrev pub split_last : {X : Type 0} → List X → Option (List X × X)
+split_last [] = None
+split_last (x ∷ xs) = Some (put_front x (split_last xs))
+
+-- before the first operand
+abbrev pub no_formula : Formula
+no_formula = record { outer = []; terms = []; factors = [] }
+
+-- behind a number, a name or a parenthesis
+abbrev pub with_factor : Formula → Expr → Formula
+with_factor f e = record { outer = f.outer; terms = f.terms; factors = f.factors ++ e ∷ [] }
+
+-- behind a `+`
+abbrev pub with_term : Formula → Formula
+with_term f = record { outer = f.outer; terms = f.terms ++ product_of f.factors ∷ []; factors = [] }
+
+-- behind a `(`
+abbrev pub opened : Formula → Formula
+opened f = record { outer = f.outer ++ record { terms = f.terms; factors = f.factors } ∷ []; terms = []; factors = [] }
+
+-- the innermost sum
+abbrev pub innermost : Formula → Expr
+innermost f = sum_of (f.terms ++ product_of f.factors ∷ [])
+
+-- behind a `)`
+abbrev pub back_in : Expr → List Frame × Frame → Formula
+back_in e (outer, frame) = record { outer = outer; terms = frame.terms; factors = frame.factors ++ e ∷ [] }
+
+-- the sum around a `(`, with the sum behind it as its factor
+abbrev pub closed : Formula → Option Formula
+closed f = option_map (back_in (innermost f)) (split_last f.outer)
+
+-- ---- items
+
+abbrev pub body_at : List Item → ItemStage → Body
+body_at items stage = record { items = items; stage = stage }
+
+-- at an operand: a name, a number or a `(`
+abbrev pub operand_step : List ℕ → Formula → Token → Option ItemStage
+operand_step n f (name w) = Some (Operator n (with_factor f (expr.Column w)))
+operand_step n f (reserved w) = None
+operand_step n f (number k) = Some (Operator n (with_factor f (expr.Number k)))
+operand_step n f (mark b) = if b == 40 then Some (Operand n (opened f)) else None
+operand_step n f (wrong kind) = None
+
+-- behind an operand: `*`, `+`, `)` or `;`
+abbrev pub operator_step : List Item → List ℕ → Formula → Token → Option Body
+operator_step items n f token =
+    if is_mark_of 42 token then Some (body_at items (Operand n f))
+    else (if is_mark_of 43 token then Some (body_at items (Operand n (with_term f)))
+    else (if is_mark_of 41 token then option_map (λ g. body_at items (Operator n g)) (closed f)
+    else (if is_mark_of 59 token && (length f.outer == 0) then Some (body_at (items ++ item.Zero n (innermost f) ∷ []) Start) else None)))
+
+-- what comes next in a table after one token more
+abbrev pub body_step : List Item → ItemStage → Token → Option Body
+body_step items Start token =
+    if is_word (codes "column") token then Some (body_at items ColumnName) else (if is_word (codes "zero") token then Some (body_at items ZeroName) else None)
+body_step items ColumnName token = option_map (λ w. body_at items (ColumnColon w)) (name_of token)
+body_step items (ColumnColon n) token = if is_mark_of 58 token then Some (body_at items (ColumnType n)) else None
+body_step items (ColumnType n) token = option_map (λ level. body_at items (ColumnEnd n level)) (option_and_then level_of (name_of token))
+body_step items (ColumnEnd n level) token = if is_mark_of 59 token then Some (body_at (items ++ item.Column n level 0 ∷ []) Start) else None
+body_step items ZeroName token = option_map (λ w. body_at items (ZeroColon w)) (name_of token)
+body_step items (ZeroColon n) token = if is_mark_of 58 token then Some (body_at items (Operand n no_formula)) else None
+body_step items (Operand n f) token = option_map (body_at items) (operand_step n f token)
+body_step items (Operator n f) token = operator_step items n f token
+
+-- ---- tables
+
+abbrev pub is_start : ItemStage → Bool
+is_start Start = true
+is_start ColumnName = false
+is_start (ColumnColon n) = false
+is_start (ColumnType n) = false
+is_start (ColumnEnd n level) = false
+is_start ZeroName = false
+is_start (ZeroColon n) = false
+is_start (Operand n f) = false
+is_start (Operator n f) = false
+
+-- these declarations, and what comes next
+abbrev pub state_at : List Decl → Stage → State
+state_at decls stage = record { decls = decls; stage = stage }
+
+-- what comes next in a text after one token more
+abbrev pub stage_step : List Decl → Stage → Token → Option State
+stage_step decls stage.File token = if is_word (codes "table") token then Some (state_at decls stage.TableName) else None
+stage_step decls stage.TableName token = option_map (λ w. state_at decls (stage.TableBrace w)) (name_of token)
+stage_step decls (stage.TableBrace n) token = if is_mark_of 123 token then Some (state_at decls (stage.Table n (body_at [] Start))) else None
+stage_step decls (stage.Table n body) token =
+    if is_mark_of 125 token && is_start body.stage then Some (state_at (decls ++ decl.Table n body.items ∷ []) stage.File)
+    else option_map (λ b. state_at decls (stage.Table n b)) (body_step body.items body.stage token)
+
+-- the machine after one token more
+abbrev pub step : State → Token → Option State
+step s token = stage_step s.decls s.stage token
+
+-- before the first token
+abbrev pub start : State
+start = state_at [] stage.File
+
+-- the machine after these tokens
+abbrev pub run : State → List Token → Option State
+run s [] = Some s
+run s (token ∷ tokens) = option_and_then (λ t. run t tokens) (step s token)
+
+-- whether a table, or the end of the text, comes next
+abbrev pub is_file_stage : Stage → Bool
+is_file_stage stage.File = true
+is_file_stage stage.TableName = false
+is_file_stage (stage.TableBrace n) = false
+is_file_stage (stage.Table n body) = false

@@ -1,0 +1,14 @@
+-- What a step of the code answers, beside what the machine does.
+use Rattle.std.specs.Prelude.{◌≡◌, Option, Some, None, Result, Ok, Err}
+use Rattle.table_text.specs.declared.refusal.Refusal.{Refusal}
+use Rattle.table_text.specs.declared.refusal.Refusal.TheVariants.{Unexpected, NoMemory}
+
+-- a token is refused where the machine refuses it, unless memory runs out
+abbrev pub Refuses : {X : Type 0} → Refusal → Option X → Type 0
+Refuses Unexpected next = next ≡ None
+Refuses NoMemory next = Unit {0}
+
+-- a step goes where the machine goes, and is refused where the machine is, unless memory runs out
+abbrev pub Steps : {X : Type 0} → Result X Refusal → Option X → Type 0
+Steps (Ok x) next = next ≡ Some x
+Steps (Err refusal) next = Refuses refusal next

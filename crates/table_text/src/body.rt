@@ -1,0 +1,160 @@
+//! The items of a table that is being read.
+
+ghost use Rattle.std.specs.Prelude.{◌≡◌};
+ghost use Rattle.table_text.specs.Machine.{is_start, operand_step, operator_step, body_step};
+ghost use Rattle.table_text.specs.Shown.{shown};
+ghost use Rattle.table_text.specs.Steps.{Steps};
+
+use crate::decl::{Item, TableItems};
+use crate::expr::{Expr, Name};
+use crate::formula::Formula;
+use crate::refusal::Refusal;
+use crate::token::{Token, is_mark, is_word, level_of, name_of};
+use sqlite_items::Items;
+use std::alloc::Global;
+
+/// What comes next in a table.
+#[derive(Drop)]
+pub(crate) enum ItemStage {
+    /// An item, or the end of the table.
+    Start,
+    ColumnName,
+    ColumnColon(Name),
+    ColumnType(Name),
+    ColumnEnd(Name, u32),
+    ZeroName,
+    ZeroColon(Name),
+    Operand(Name, Formula),
+    Operator(Name, Formula),
+}
+
+/// The finished items, and what comes next.
+#[derive(Drop)]
+pub(crate) struct Body {
+    pub items: TableItems,
+    pub stage: ItemStage,
+}
+
+/// Whether an item, or the end of the table, comes next.
+pub(crate) fn is_start(stage: &ItemStage) -> bool
+    ensures { result ≡ is_start stage.now }
+{
+    matches!(stage, ItemStage::Start)
+}
+
+fn operand_step(
+    alloc: Global,
+    name: Name,
+    formula: Formula,
+    token: Token<'_>,
+) -> Result<ItemStage, Refusal>
+    ensures { Steps result (operand_step name formula (shown token.entry)) }
+{
+    match token {
+        Token::Name(word) => {
+            let column = Items::from_slice(alloc, word)?;
+            let formula = formula.with_factor(Expr::Column(column))?;
+            Ok(ItemStage::Operator(name, formula))
+        }
+        Token::Number(number) => {
+            let formula = formula.with_factor(Expr::Number(number))?;
+            Ok(ItemStage::Operator(name, formula))
+        }
+        Token::Mark(b'(') => {
+            let formula = formula.opened(alloc)?;
+            Ok(ItemStage::Operand(name, formula))
+        }
+        _ => Err(Refusal::Unexpected),
+    }
+}
+
+fn operator_step(
+    alloc: Global,
+    mut items: TableItems,
+    name: Name,
+    formula: Formula,
+    token: Token<'_>,
+) -> Result<Body, Refusal>
+    ensures { Steps result (operator_step items name formula (shown token.entry)) }
+{
+    if is_mark(token, b'*') {
+        let stage = ItemStage::Operand(name, formula);
+        Ok(Body { items, stage })
+    } else if is_mark(token, b'+') {
+        let stage = ItemStage::Operand(name, formula.with_term(alloc)?);
+        Ok(Body { items, stage })
+    } else if is_mark(token, b')') {
+        let Some(formula) = formula.closed()? else {
+            return Err(Refusal::Unexpected);
+        };
+        let stage = ItemStage::Operator(name, formula);
+        Ok(Body { items, stage })
+    } else if is_mark(token, b';') && formula.outer.len() == 0 {
+        let expr = formula.innermost()?;
+        items.push(Item::Zero { name, expr })?;
+        let stage = ItemStage::Start;
+        Ok(Body { items, stage })
+    } else {
+        Err(Refusal::Unexpected)
+    }
+}
+
+/// Where an item begins.
+fn start_step(items: TableItems, token: Token<'_>) -> Result<Body, Refusal>
+    ensures { Steps result (body_step items ItemStage.Start (shown token.entry)) }
+{
+    if is_word(token, b"column") {
+        let stage = ItemStage::ColumnName;
+        Ok(Body { items, stage })
+    } else if is_word(token, b"zero") {
+        let stage = ItemStage::ZeroName;
+        Ok(Body { items, stage })
+    } else {
+        Err(Refusal::Unexpected)
+    }
+}
+
+/// A body after one token more.
+pub(crate) fn body_step(alloc: Global, body: Body, token: Token<'_>) -> Result<Body, Refusal>
+    ensures { Steps result (body_step body.items body.stage (shown token.entry)) }
+{
+    let Body { mut items, stage } = body;
+    match stage {
+        ItemStage::Start => start_step(items, token),
+        ItemStage::ColumnName => {
+            let stage = ItemStage::ColumnColon(name_of(alloc, token)?);
+            Ok(Body { items, stage })
+        }
+        ItemStage::ColumnColon(name) if is_mark(token, b':') => {
+            let stage = ItemStage::ColumnType(name);
+            Ok(Body { items, stage })
+        }
+        ItemStage::ColumnType(name) => {
+            let stage = ItemStage::ColumnEnd(name, level_of(token)?);
+            Ok(Body { items, stage })
+        }
+        ItemStage::ColumnEnd(name, level) if is_mark(token, b';') => {
+            items.push(Item::Column {
+                name,
+                level,
+                log_values: 0,
+            })?;
+            let stage = ItemStage::Start;
+            Ok(Body { items, stage })
+        }
+        ItemStage::ZeroName => {
+            let stage = ItemStage::ZeroColon(name_of(alloc, token)?);
+            Ok(Body { items, stage })
+        }
+        ItemStage::ZeroColon(name) if is_mark(token, b':') => {
+            let stage = ItemStage::Operand(name, Formula::new(alloc));
+            Ok(Body { items, stage })
+        }
+        ItemStage::Operand(name, formula) => {
+            let stage = operand_step(alloc, name, formula, token)?;
+            Ok(Body { items, stage })
+        }
+        ItemStage::Operator(name, formula) => operator_step(alloc, items, name, formula, token),
+        _ => Err(Refusal::Unexpected),
+    }
+}

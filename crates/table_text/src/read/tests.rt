@@ -1,0 +1,298 @@
+use super::*;
+use crate::decl::{Decl, Item};
+use crate::expr::Expr;
+use std::alloc::AllocError;
+use std::process::Abort;
+use std::test::Fail;
+
+fn answer(rt: &(impl Abort + AllocGlobal), text: &[u8]) -> Result<Tables, TextStop> {
+    assert!(rt; text.len() < 1 << 32);
+    read_tables(rt.alloc(), text)
+}
+
+fn fault(place: u32, kind: TextKind) -> TextStop {
+    TextStop::Fault(TextFault { place, kind })
+}
+
+/// A table with one constraint, whose expression stands at byte 18.
+fn constraint(alloc: Global, front: &[u8], back: &[u8]) -> Result<Vec<u8>, AllocError> {
+    let mut text = Vec::from_slice(alloc, b"table t { zero z: ")?;
+    text.extend_from_slice(front)?;
+    text.extend_from_slice(back)?;
+    text.extend_from_slice(b"; }")?;
+    Ok(text)
+}
+
+#[test]
+fn declarations(rt: HostRuntime) -> Result<(), Fail> {
+    let tables = answer(&rt, b"table t { column a : b1; zero z : a*a + a; }")?;
+    let [Decl::Table { name, items }] = tables.decls() else {
+        panic!(rt; "not one table")
+    };
+    assert_eq!(rt; name.as_slice(), b"t".as_slice());
+    let [
+        Item::Column {
+            name,
+            level,
+            log_values,
+        },
+        Item::Zero { name: zero, expr },
+    ] = items.as_slice()
+    else {
+        panic!(rt; "not a column and a constraint")
+    };
+    assert_eq!(rt; name.as_slice(), b"a".as_slice());
+    assert_eq!(rt; (*level, *log_values), (0, 0));
+    assert_eq!(rt; zero.as_slice(), b"z".as_slice());
+    let Expr::Sum(terms) = expr else {
+        panic!(rt; "not a sum")
+    };
+    let [Expr::Product(factors), Expr::Column(last)] = terms.as_slice() else {
+        panic!(rt; "not a product and a column")
+    };
+    assert_eq!(rt; last.as_slice(), b"a".as_slice());
+    let [Expr::Column(first), Expr::Column(second)] = factors.as_slice() else {
+        panic!(rt; "not two columns")
+    };
+    assert_eq!(rt; first.as_slice(), b"a".as_slice());
+    assert_eq!(rt; second.as_slice(), b"a".as_slice());
+    Ok(())
+}
+
+static FAULTS: [(&str, u32, TextKind); 36] = [
+    // What the grammar asks for isn't there.
+    (
+        "table t { column a : b1 zero z : a*a + a; }",
+        24,
+        TextKind::Unexpected,
+    ),
+    ("table t { column a : b3; }", 21, TextKind::Unexpected),
+    ("table t { column a : b0; }", 21, TextKind::Unexpected),
+    ("table column { }", 6, TextKind::Unexpected),
+    ("table if { }", 6, TextKind::Unexpected),
+    ("column a : b1;", 0, TextKind::Unexpected),
+    ("table t { zero z : (a; }", 21, TextKind::Unexpected),
+    ("table t { zero z : a); }", 20, TextKind::Unexpected),
+    ("table t { zero z : (); }", 20, TextKind::Unexpected),
+    ("table t { zero z : a + ; }", 23, TextKind::Unexpected),
+    ("table t { zero z : a a; }", 21, TextKind::Unexpected),
+    ("table t { zero z : a = a; }", 21, TextKind::Unexpected),
+    ("table t { zero z : ; }", 19, TextKind::Unexpected),
+    ("table t { } }", 12, TextKind::Unexpected),
+    // The text ends too early.
+    ("table", 5, TextKind::Unexpected),
+    ("table t { column a : b1;\n", 25, TextKind::Unexpected),
+    ("table t { } table t # {}", 24, TextKind::Unexpected),
+    // A byte that begins no token.
+    ("table t { column _a : b1; }", 17, TextKind::Unexpected),
+    ("table t { zero z : a - a; }", 21, TextKind::Unexpected),
+    // A byte that no text has comes before all else.
+    ("table { \u{e9}", 8, TextKind::NotText),
+    ("table t { } \u{7f}", 12, TextKind::NotText),
+    ("table t { } # \0", 14, TextKind::NotText),
+    // Words that aren't read yet, wherever they stand.
+    ("table t { column a : b1 x 1; }", 24, TextKind::NotBuilt),
+    ("channel c : 1;", 0, TextKind::NotBuilt),
+    ("table t { pull c(a); }", 10, TextKind::NotBuilt),
+    ("table push { }", 6, TextKind::NotBuilt),
+    ("boundary", 0, TextKind::NotBuilt),
+    ("table t virtual", 8, TextKind::NotBuilt),
+    // Tokens are as long as possible.
+    ("table t { zero z : 0x; }", 20, TextKind::NotBuilt),
+    ("table t { zero z : 12ab; }", 21, TextKind::Unexpected),
+    ("table t { zero z : 0X1F; }", 20, TextKind::Unexpected),
+    // 2 ^ 128.
+    (
+        "table t { zero z : 340282366920938463463374607431768211456; }",
+        19,
+        TextKind::NumberTooWide,
+    ),
+    (
+        "table t { zero z : 0x100000000000000000000000000000000; }",
+        19,
+        TextKind::NumberTooWide,
+    ),
+    (
+        "table 999999999999999999999999999999999999999999 { }",
+        6,
+        TextKind::NumberTooWide,
+    ),
+    // 65 bytes.
+    (
+        "a2345678901234567890123456789012345678901234567890123456789012345",
+        0,
+        TextKind::NameTooLong,
+    ),
+    (
+        "table a2345678901234567890123456789012345678901234567890123456789012345",
+        6,
+        TextKind::NameTooLong,
+    ),
+];
+
+#[test]
+fn faults(rt: HostRuntime) -> Result<(), Fail> {
+    for &(text, place, kind) in &FAULTS {
+        match answer(&rt, text.as_bytes()) {
+            Ok(_) => panic!(rt; "read: {text}"),
+            Err(stop) => assert_eq!(rt; stop, fault(place, kind), "{text}"),
+        }
+    }
+    Ok(())
+}
+
+static READINGS: [(&str, &str); 6] = [
+    ("", "Tables { decls: Items { items: [] } }"),
+    ("# nothing", "Tables { decls: Items { items: [] } }"),
+    ("\t\r\n #table\n", "Tables { decls: Items { items: [] } }"),
+    (
+        "table t{}",
+        "Tables { decls: Items { items: [Table { name: Items { items: [116] }, items: Items { items: [] } }] } }",
+    ),
+    (
+        "table t{}table t#\n{}",
+        "Tables { decls: Items { items: [Table { name: Items { items: [116] }, items: Items { items: [] } }, Table { name: Items { items: [116] }, items: Items { items: [] } }] } }",
+    ),
+    // A type's word is a name elsewhere.
+    (
+        "table b1 { column b8 : b128; }",
+        "Tables { decls: Items { items: [Table { name: Items { items: [98, 49] }, items: Items { items: [Column { name: Items { items: [98, 56] }, level: 7, log_values: 0 }] } }] } }",
+    ),
+];
+
+#[test]
+fn readings(rt: HostRuntime) -> Result<(), Fail> {
+    for &(text, want) in &READINGS {
+        let tables = answer(&rt, text.as_bytes())?;
+        let shown = format!(in rt.alloc(); "{tables:?}")?;
+        assert_eq!(rt; shown.as_str(), want, "{text}");
+    }
+    Ok(())
+}
+
+static EXPRESSIONS: [(&str, &str); 14] = [
+    // Parts of one are what they are of.
+    ("7", "Number(7)"),
+    ("((7))", "Number(7)"),
+    ("0x1f", "Number(31)"),
+    (
+        "000000000000000000000000000000000000000000000000000000000000010",
+        "Number(10)",
+    ),
+    (
+        "0x00000000000000000000000000000000000000000000000000000000000aB",
+        "Number(171)",
+    ),
+    (
+        "340282366920938463463374607431768211455",
+        "Number(340282366920938463463374607431768211455)",
+    ),
+    (
+        "0xffffffffffffffffffffffffffffffff",
+        "Number(340282366920938463463374607431768211455)",
+    ),
+    (
+        "1+2+3",
+        "Sum(Items { items: [Number(1), Number(2), Number(3)] })",
+    ),
+    (
+        "1*2*3",
+        "Product(Items { items: [Number(1), Number(2), Number(3)] })",
+    ),
+    (
+        "1+2*3",
+        "Sum(Items { items: [Number(1), Product(Items { items: [Number(2), Number(3)] })] })",
+    ),
+    (
+        "(1*2)*3",
+        "Product(Items { items: [Product(Items { items: [Number(1), Number(2)] }), Number(3)] })",
+    ),
+    (
+        "1+(2+3)",
+        "Sum(Items { items: [Number(1), Sum(Items { items: [Number(2), Number(3)] })] })",
+    ),
+    (
+        "(b + 1)*b",
+        "Product(Items { items: [Sum(Items { items: [Column(Items { items: [98] }), Number(1)] }), Column(Items { items: [98] })] })",
+    ),
+    (
+        "(1*(2+3)*4+5)",
+        "Sum(Items { items: [Product(Items { items: [Number(1), Sum(Items { items: [Number(2), Number(3)] }), Number(4)] }), Number(5)] })",
+    ),
+];
+
+#[test]
+fn expressions(rt: HostRuntime) -> Result<(), Fail> {
+    for &(text, want) in &EXPRESSIONS {
+        let tables = answer(&rt, &constraint(rt.alloc(), text.as_bytes(), b"")?)?;
+        let [Decl::Table { name: _, items }] = tables.decls() else {
+            panic!(rt; "not one table")
+        };
+        let [Item::Zero { name: _, expr }] = items.as_slice() else {
+            panic!(rt; "not one constraint")
+        };
+        let shown = format!(in rt.alloc(); "{expr:?}")?;
+        assert_eq!(rt; shown.as_str(), want, "{text}");
+    }
+    Ok(())
+}
+
+#[test]
+fn limits(rt: HostRuntime) -> Result<(), Fail> {
+    // Names of 64 bytes.
+    let name = b"a234567890123456789012345678901234567890123456789012345678901234";
+    assert_eq!(rt; name.len(), 64);
+    assert!(rt; answer(&rt, &constraint(rt.alloc(), name, b"")?).is_ok());
+
+    // 32 and 33 open parentheses, also where others are closed.
+    let open = [b'('; 33];
+    let close = [b')'; 33];
+    for (front, count, kind) in [
+        ("", 32, None),
+        ("", 33, Some(TextKind::TooDeep)),
+        ("(1)+", 32, None),
+        ("(1)+", 33, Some(TextKind::TooDeep)),
+    ] {
+        let mut expr = Vec::from_slice(rt.alloc(), front.as_bytes())?;
+        expr.extend_from_slice(&open[..count])?;
+        expr.push(b'1')?;
+        expr.extend_from_slice(&close[..count])?;
+        match (answer(&rt, &constraint(rt.alloc(), &expr, b"")?), kind) {
+            (Ok(_), None) => {}
+            (Err(stop), Some(kind)) => {
+                let place = 18 + front.len() as u32 + 32;
+                assert_eq!(rt; stop, fault(place, kind));
+            }
+            _ => panic!(rt; "{count} open behind {front}"),
+        }
+    }
+    // An unfinished text of them.
+    let text = b"table t { zero z: (((((((((((((((((((((((((((((((((";
+    assert!(rt; answer(&rt, text).is_err_and(|stop| stop == fault(50, TextKind::TooDeep)));
+
+    // 65,535 declarations, and one more.
+    let mut text = Vec::from_slice(rt.alloc(), b"table t{")?;
+    for _ in 0..65534 {
+        text.extend_from_slice(b"column a:b1;")?;
+    }
+    text.push(b'}')?;
+    assert!(rt; answer(&rt, &text).is_ok());
+    text.extend_from_slice(b"table")?;
+    let Err(stop) = answer(&rt, &text) else {
+        panic!(rt; "65,536 declarations")
+    };
+    assert_eq!(rt; stop, fault(786417, TextKind::TooMany));
+    Ok(())
+}
+
+#[test]
+fn long_text(rt: HostRuntime) -> Result<(), Fail> {
+    let mut expr = Vec::new(rt.alloc());
+    for _ in 0..262000 {
+        expr.extend_from_slice(b"a*1+")?;
+    }
+    let text = constraint(rt.alloc(), &expr, b"1")?;
+    assert!(rt; 1048000 < text.len() && text.len() <= 1048576);
+    assert!(rt; answer(&rt, &text).is_ok());
+    Ok(())
+}

@@ -1,0 +1,119 @@
+//! Tokens.
+
+ghost use Rattle.std.specs.Prelude.{◌≡◌, option_and_then};
+ghost use Rattle.std.specs.List.{list_any};
+ghost use Rattle.std.specs.Str.{bytes_eq};
+ghost use Rattle.table_text.specs.Faults.{is_mark_of, begins_declaration, own_fault, unbuilt_words};
+ghost use Rattle.table_text.specs.Machine.{is_word, level_of, name_of};
+ghost use Rattle.table_text.specs.Shown.{shown};
+ghost use Rattle.table_text.specs.Steps.{Steps};
+
+use crate::expr::Name;
+use crate::fault::TextKind;
+use crate::refusal::Refusal;
+use sqlite_items::Items;
+use std::alloc::Global;
+
+/// A token, with its word where the text has it.
+#[derive(Clone, Copy)]
+pub(crate) enum Token<'a> {
+    Name(&'a [u8]),
+    Reserved(&'a [u8]),
+    Number(u128),
+    Mark(u8),
+    Wrong(TextKind),
+}
+
+/// Whether a token is a mark.
+pub(crate) fn is_mark(token: Token<'_>, mark: u8) -> bool
+    ensures { result ≡ is_mark_of mark (shown token.entry) }
+{
+    match token {
+        Token::Mark(byte) => mark == byte,
+        _ => false,
+    }
+}
+
+/// Whether a token is a reserved word.
+pub(crate) fn is_word(token: Token<'_>, word: &[u8]) -> bool
+    ensures { result ≡ is_word word.now (shown token.entry) }
+{
+    match token {
+        Token::Reserved(bytes) => bytes == word,
+        _ => false,
+    }
+}
+
+/// Whether a declaration begins with a token.
+pub(crate) fn begins_declaration(token: Token<'_>) -> bool
+    ensures { result ≡ begins_declaration (shown token.entry) }
+{
+    match token {
+        Token::Reserved(word) => {
+            word == b"table".as_slice()
+                || word == b"column".as_slice()
+                || word == b"zero".as_slice()
+        }
+        _ => false,
+    }
+}
+
+/// What is wrong with a token wherever it stands.
+pub(crate) fn own_fault(token: Token<'_>) -> Option<TextKind>
+    ensures { result ≡ own_fault (shown token.entry) }
+{
+    match token {
+        Token::Wrong(kind) => Some(kind),
+        Token::Reserved(word) if is_unbuilt(word) => Some(TextKind::NotBuilt),
+        _ => None,
+    }
+}
+
+fn is_unbuilt(word: &[u8]) -> bool
+    ensures { result ≡ list_any (bytes_eq word.now) unbuilt_words }
+{
+    word == b"channel".as_slice()
+        || word == b"boundary".as_slice()
+        || word == b"virtual".as_slice()
+        || word == b"push".as_slice()
+        || word == b"pull".as_slice()
+        || word == b"x".as_slice()
+}
+
+/// A word that isn't reserved, as a name.
+pub(crate) fn name_of(alloc: Global, token: Token<'_>) -> Result<Name, Refusal>
+    ensures { Steps result (name_of (shown token.entry)) }
+{
+    match token {
+        Token::Name(word) => Ok(Items::from_slice(alloc, word)?),
+        _ => Err(Refusal::Unexpected),
+    }
+}
+
+/// The level of a type's word.
+pub(crate) fn level_of(token: Token<'_>) -> Result<u32, Refusal>
+    ensures { Steps result (option_and_then level_of (name_of (shown token.entry))) }
+{
+    let Token::Name(word) = token else {
+        return Err(Refusal::Unexpected);
+    };
+    if word == b"b1".as_slice() {
+        Ok(0)
+    } else if word == b"b2".as_slice() {
+        Ok(1)
+    } else if word == b"b4".as_slice() {
+        Ok(2)
+    } else if word == b"b8".as_slice() {
+        Ok(3)
+    } else if word == b"b16".as_slice() {
+        Ok(4)
+    } else if word == b"b32".as_slice() {
+        Ok(5)
+    } else if word == b"b64".as_slice() {
+        Ok(6)
+    } else if word == b"b128".as_slice() {
+        Ok(7)
+    } else {
+        Err(Refusal::Unexpected)
+    }
+}
