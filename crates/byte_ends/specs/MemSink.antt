@@ -1,4 +1,4 @@
-use Rattle.std.specs.Prelude.{◌≡◌, ℕ, ◌-◌, ◌<◌, ◌≤◌, ◌++◌, min, ◌⊎◌, true, Contains, List, length, take}
+use Rattle.std.specs.Prelude.{ℕ, ◌-◌, ◌<◌, ◌≤◌, ◌++◌, min, ◌⊎◌, true, Contains, List, length, take}
 use Rattle.byte_ends.specs.Counts.{raised}
 use Rattle.byte_ends.specs.Sink.{SinkState}
 

@@ -2,6 +2,7 @@ pub mod ShapeSteps
 pub mod Searching
 pub mod Products
 pub mod HexDigits
+pub mod AnswerSteps
 pub mod CeilLog
 pub mod Bits
 pub mod ByteDigits
@@ -10,3 +11,5 @@ pub mod Following
 pub mod Padding
 pub mod Members
 pub mod KeptWitness
+pub mod Once
+pub mod Runs

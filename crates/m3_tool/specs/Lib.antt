@@ -13,3 +13,8 @@ pub mod Judging
 pub mod Status
 pub mod Command
 pub mod Lines
+pub mod Run
+pub mod Answering
+pub mod Answered
+pub mod Checking
+pub mod Headline

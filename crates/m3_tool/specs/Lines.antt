@@ -88,3 +88,12 @@ read_fault_line = codes "read fault\n"
 
 abbrev pub no_memory_line : List ℕ
 no_memory_line = codes "no memory\n"
+
+abbrev pub version_line : List ℕ
+version_line = codes "bm3 0.1.0\n"
+
+unfoldable pub help_text : List ℕ
+help_text =
+    codes "bm3 check TABLES WITNESS\n    Says whether a witness satisfies tables. Reads both files and writes none.\n" ++ codes "bm3 --help\n    Prints this text.\n" ++ codes "bm3 --version\n    Prints the version.\n"
+    ++ codes "Statuses:\n    0   satisfied, or the text was printed\n    1   the witness violates the tables\n    2   the words fit no command\n    3   the text of the tables or their shape is refused\n    4   the witness is refused\n"
+    ++ codes "    6   a read failed\n    7   a write failed\n    8   the columns take too many bits\n    9   out of memory\n    10  a file is too long\n"

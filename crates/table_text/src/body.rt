@@ -89,7 +89,7 @@ fn operator_step(
         };
         let stage = ItemStage::Operator(name, formula);
         Ok(Body { items, stage })
-    } else if is_mark(token, b';') && formula.outer.len() == 0 {
+    } else if is_mark(token, b';') && formula.outer.is_empty() {
         let expr = formula.innermost()?;
         items.push(Item::Zero { name, expr })?;
         let stage = ItemStage::Start;

@@ -1,0 +1,80 @@
+-- No two answers of different statuses are due.
+use Rattle.std.proofs.Common.{◌≡◌, ◌≤◌, ◌⊎◌, ℕ, List, length, Bool, true, false, Result, Ok, Err, refl, sym, ◌∙◌, ap, subst, inl, inr, arith}
+use Rattle.std.specs.Prelude.{nat_lt, MatchResult}
+use Rattle.std.specs.Bool.{MatchBool}
+use Rattle.std.proofs.lemmas.Bool.Decides.{nat_tests}
+use Rattle.table_text.specs.declared.decl.Decl.{Decl}
+use Rattle.table_text.specs.declared.fault.TextFault.{TextFault}
+use Rattle.m3_tool.specs.declared.shape.TableShape.{TableShape}
+use Rattle.m3_tool.specs.declared.resolve.ShapeFault.{ShapeFault}
+use Rattle.m3_tool.specs.declared.witness.WitnessStop.{WitnessStop}
+use Rattle.m3_tool.specs.declared.judge.Violation.{Violation}
+use Rattle.m3_tool.specs.declared.status.Status.{Status}
+use Rattle.m3_tool.specs.declared.status.Status.TheVariants.{TooLong}
+use Rattle.m3_tool.specs.Shape.{shape_of}
+use Rattle.m3_tool.specs.Filling.{Filling}
+use Rattle.m3_tool.specs.Satisfies.{Satisfies, IsFirstViolation}
+use Rattle.m3_tool.specs.Witness.{Witness as Given, witness_of, filling_of}
+use Rattle.m3_tool.specs.Lines.{too_long_line}
+use Rattle.m3_tool.specs.Run.{Answer, answer, IsJudgement, IsWitnessAnswer, IsWitnessFileAnswer, IsShapeAnswer, IsTextAnswer, IsCheckAnswer, max_tables_file, max_witness_file, witness_refusal}
+use Rattle.m3_tool.specs.Answered.{IsReadOnce, IsFileReadOnce}
+
+-- values that satisfy tables violate none
+apart : (tables : List TableShape) (rows : List ℕ) (filling : Filling) (v : Violation) → Satisfies tables rows filling → IsFirstViolation tables rows filling v → ⊥
+apart tables rows filling v satisfies first =
+    first.not_zero (first.value ∙ satisfies v.table first.table v.constraint first.constraint first.table_is first.constraint_is v.row v.index first.row first.index)
+
+same_status : (s : Status) (l m : List ℕ) (a b : Answer) → a ≡ answer s l → b ≡ answer s m → b.status ≡ a.status
+same_status s l m a b is also = ap (λ (x : Answer). x.status) also ∙ sym (ap (λ (x : Answer). x.status) is)
+
+judged_once : (tables : List TableShape) (rows : List ℕ) (filling : Filling) (a b : Answer) → IsJudgement tables rows filling a → IsJudgement tables rows filling b → b.status ≡ a.status
+judged_once tables rows filling a b (inl p) (inl q) = same_status _ _ _ a b p.1 q.1
+judged_once tables rows filling a b (inl p) (inr (v, first, q)) = absurd (apart tables rows filling v p.0 first)
+judged_once tables rows filling a b (inr (v, first, p)) (inl q) = absurd (apart tables rows filling v q.0 first)
+judged_once tables rows filling a b (inr (v, first, p)) (inr (w, second, q)) = same_status _ _ _ a b p q
+
+witness_once : (tables : List TableShape) (r : Result Given WitnessStop) (a b : Answer)
+    → MatchResult r (λ (w : Given). IsJudgement tables w.rows (filling_of tables w) a) (λ stop. a ≡ witness_refusal stop)
+    → MatchResult r (λ (w : Given). IsJudgement tables w.rows (filling_of tables w) b) (λ stop. b ≡ witness_refusal stop) → b.status ≡ a.status
+witness_once tables (Ok w) a b p q = judged_once tables w.rows (filling_of tables w) a b p q
+witness_once tables (Err stop) a b p q = ap (λ (x : Answer). x.status) (q ∙ sym p)
+
+file_once : (t : Bool) (limit : ℕ) (P : Answer → Type 0) (a b : Answer) → (P a → P b → b.status ≡ a.status)
+    → MatchBool t (a ≡ answer TooLong (too_long_line limit)) (P a) → MatchBool t (b ≡ answer TooLong (too_long_line limit)) (P b) → b.status ≡ a.status
+file_once true limit P a b rest p q = ap (λ (x : Answer). x.status) (q ∙ sym p)
+file_once false limit P a b rest p q = rest p q
+
+witness_file_once : (tables : List TableShape) (witness : List ℕ) (a b : Answer) → IsWitnessFileAnswer tables witness a → IsWitnessFileAnswer tables witness b → b.status ≡ a.status
+witness_file_once tables witness a b p q =
+    file_once (nat_lt max_witness_file (length witness)) max_witness_file (IsWitnessAnswer tables witness) a b (λ x y. witness_once tables (witness_of tables witness) a b x y) p q
+
+shape_once : (witness : List ℕ) (r : Result (List TableShape) ShapeFault) (refusal : ShapeFault → Answer) (a b : Answer)
+    → MatchResult r (λ tables. IsWitnessFileAnswer tables witness a) (λ fault. a ≡ refusal fault)
+    → MatchResult r (λ tables. IsWitnessFileAnswer tables witness b) (λ fault. b ≡ refusal fault) → b.status ≡ a.status
+shape_once witness (Ok tables) refusal a b p q = witness_file_once tables witness a b p q
+shape_once witness (Err fault) refusal a b p q = ap (λ (x : Answer). x.status) (q ∙ sym p)
+
+text_once : (text witness : List ℕ) (a b : Answer) → IsReadOnce text → IsTextAnswer text witness a → IsTextAnswer text witness b → b.status ≡ a.status
+text_once text witness a b once (inl (f, is, p)) (inl (g, also, q)) = same_status _ _ _ a b p q
+text_once text witness a b once (inl (f, is, p)) (inr (d, also, q)) = absurd (two f d (sym (once.fault f is) ∙ once.decls d also))
+  where
+    two : (f : TextFault) (d : List Decl) → ◌≡◌ {A = Result (List Decl) TextFault} (Err f) (Ok d) → ⊥
+    two f d e = cc
+text_once text witness a b once (inr (d, is, p)) (inl (f, also, q)) = absurd (two f d (sym (once.fault f also) ∙ once.decls d is))
+  where
+    two : (f : TextFault) (d : List Decl) → ◌≡◌ {A = Result (List Decl) TextFault} (Err f) (Ok d) → ⊥
+    two f d e = cc
+text_once text witness a b once (inr (d, is, p)) (inr (e, also, q)) =
+    let same : e ≡ d = one e d (sym (once.decls e also) ∙ once.decls d is) in
+    shape_once witness (shape_of d) _ a b p (subst (λ (ds : List Decl). IsShapeAnswer ds witness b) same q)
+  where
+    one : (e d : List Decl) → ◌≡◌ {A = Result (List Decl) TextFault} (Ok e) (Ok d) → e ≡ d
+    one e d h = cc
+
+-- one status is due to a check
+pub check_once : (text witness : List ℕ) (a b : Answer) → IsFileReadOnce text → IsCheckAnswer text witness a → IsCheckAnswer text witness b → b.status ≡ a.status
+check_once text witness a b once p q =
+    elim (nat_lt max_tables_file (length text)) as (λ t. nat_lt max_tables_file (length text) ≡ t → MatchBool t (a ≡ answer TooLong (too_long_line max_tables_file)) (IsTextAnswer text witness a) → MatchBool t (b ≡ answer TooLong (too_long_line max_tables_file)) (IsTextAnswer text witness b) → b.status ≡ a.status) [
+      true ↦ λ e x y. ap (λ (s : Answer). s.status) (y ∙ sym x)
+      | false ↦ λ e x y. let within : length text ≤ max_tables_file = grind (arith, nat_tests) in text_once text witness a b (once within) x y
+    ] refl p q

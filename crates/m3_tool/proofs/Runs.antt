@@ -1,0 +1,83 @@
+-- What the answer to words says of a run.
+use Rattle.std.proofs.Common.{◌≡◌, ◌≢◌, ℕ, List, false, Option, Some, None, refl, sym, ◌∙◌, ap, subst, arith}
+use Rattle.std.specs.Prelude.{IsTrue}
+use Rattle.byte_ends.specs.Shelf.{ShelfState, bytes_of, SameFaults, ReadsOnly, ReadFailed}
+use Rattle.m3_tool.specs.declared.status.Status.{Status}
+use Rattle.m3_tool.specs.declared.status.Status.TheVariants.{Yes, No, Words, Tables, Witness, ReadFault, WriteFault, TooLarge, NoMemory, TooLong}
+use Rattle.m3_tool.specs.Command.{Command, check, help, version}
+use Rattle.m3_tool.specs.Checking.{EndsCheck}
+use Rattle.m3_tool.specs.Run.{Answer, answer, IsCheckAnswer, IsDue}
+use Rattle.m3_tool.specs.Answered.{IsFileReadOnce, IsAnswered}
+use Rattle.m3_tool.proofs.Once.{check_once}
+
+not_words : (s : Status) → EndsCheck s → s ≡ Words → ⊥
+not_words s ends is = subst EndsCheck is ends
+
+not_reading : (s : Status) → EndsCheck s → s ≡ ReadFault → ⊥
+not_reading s ends is = subst EndsCheck is ends
+
+not_writing : (s : Status) → EndsCheck s → s ≡ WriteFault → ⊥
+not_writing s ends is = subst EndsCheck is ends
+
+not_memory : (s : Status) → EndsCheck s → s ≡ NoMemory → ⊥
+not_memory s ends is = subst EndsCheck is ends
+
+-- a check that ends by the bytes of its files
+pub checked : (c : Option Command) (tables witness : List ℕ) (old new : ShelfState) (a : Answer) → c ≡ Some (check tables witness)
+    → (IsTrue old.told → IsCheckAnswer (bytes_of old tables) (bytes_of old witness) a) → (IsTrue old.told → IsFileReadOnce (bytes_of old tables)) → EndsCheck a.status
+    → SameFaults old new → ReadsOnly old new → IsAnswered c old new a
+checked c tables witness old new a is due once ends quiet reads_only = subst (λ (d : Option Command). IsAnswered d old new a) (sym is) (record {
+  due = λ told inside. due told;
+  only = λ told inside b also. check_once (bytes_of old tables) (bytes_of old witness) a b (once told) (due told) also;
+  words = λ e. absurd (some_none e);
+  fits = λ s. absurd (not_words a.status ends s);
+  read_fault = λ s. absurd (not_reading a.status ends s);
+  no_memory = λ s. absurd (not_memory a.status ends s);
+  no_write = λ s. not_writing a.status ends s;
+  quiet = λ _. quiet;
+  reads_only = reads_only;
+})
+  where
+    some_none : {X : Type 0} {x : X} → Some x ≡ None → ⊥
+    some_none e = cc
+
+pub no_fault : (shelf : ShelfState) → SameFaults shelf shelf
+no_fault shelf = record {
+  reads = record { all = refl; of_name = λ name. refl };
+  writes = record { all = refl; of_name = λ name. refl };
+}
+
+pub reads_nothing : (shelf : ShelfState) → ReadsOnly shelf shelf
+reads_nothing shelf = record {
+  told = refl;
+  files = λ told. record { each = λ name. refl };
+  write_faults = record { all = refl; of_name = λ name. refl };
+  counts = record { read_faults = omega arith; write_faults = omega arith; read_faults_of = λ name. omega arith; write_faults_of = λ name. omega arith };
+}
+
+-- a fixed text that is due whatever the files are
+pub printed : (c d : Option Command) (shelf : ShelfState) (line : List ℕ) (a : Answer) → c ≡ d → d ≢ None → ((b : Answer) → IsDue d shelf b → b ≡ answer Yes line) → IsDue d shelf a → a ≡ answer Yes line
+    → IsAnswered c shelf shelf a
+printed c d shelf line a is fits one due same = subst (λ (e : Option Command). IsAnswered e shelf shelf a) (sym is) (record {
+  due = λ told inside. due;
+  only = λ told inside b also. ap (λ (x : Answer). x.status) (one b also ∙ sym same);
+  words = λ e. absurd (fits e);
+  fits = λ s. absurd (yes_words (sym (ap (λ (x : Answer). x.status) same) ∙ s));
+  read_fault = λ s. absurd (yes_reading (sym (ap (λ (x : Answer). x.status) same) ∙ s));
+  no_memory = λ s. absurd (yes_memory (sym (ap (λ (x : Answer). x.status) same) ∙ s));
+  no_write = λ s. yes_writing (sym (ap (λ (x : Answer). x.status) same) ∙ s);
+  quiet = λ _. no_fault shelf;
+  reads_only = reads_nothing shelf;
+})
+  where
+    yes_words : Yes ≡ Words → ⊥
+    yes_words e = cc
+
+    yes_reading : Yes ≡ ReadFault → ⊥
+    yes_reading e = cc
+
+    yes_writing : Yes ≡ WriteFault → ⊥
+    yes_writing e = cc
+
+    yes_memory : Yes ≡ NoMemory → ⊥
+    yes_memory e = cc

@@ -1,0 +1,39 @@
+-- What a run promises.
+use Rattle.std.specs.Prelude.{◌≡◌, ℕ, ◌⊎◌, IsTrue, List, Option, Some, None}
+use Rattle.byte_ends.specs.Counts.{Rose}
+use Rattle.byte_ends.specs.Shelf.{ShelfState, bytes_of}
+use Rattle.byte_ends.specs.Sink.{SinkState, Puts, PutsPrefix}
+use Rattle.m3_tool.specs.declared.status.Status.{Status}
+use Rattle.m3_tool.specs.declared.status.Status.TheVariants.{Yes, No, Words, WriteFault}
+use Rattle.m3_tool.specs.Command.{Command, check}
+use Rattle.m3_tool.specs.Lines.{satisfied_line, words_line}
+use Rattle.m3_tool.specs.Run.{Answer, IsDue, IsSatisfied, IsViolated}
+
+-- the answer that is due has this status, and its line was put
+pub record PutsDue (c : Option Command) (shelf : ShelfState) (old new : SinkState) (status : Status) : Type 0 where
+  pub answer : Answer
+  pub due : IsDue c shelf answer
+  pub status_is : answer.status ≡ status
+  pub puts : Puts old new answer.line
+
+-- no answer of another status is due
+abbrev pub OnlyDue : Option Command → ShelfState → Status → Type 0
+OnlyDue c shelf status = (a : Answer) → IsDue c shelf a → a.status ≡ status
+
+-- a check that says Yes has read a witness that satisfies the tables
+abbrev pub SaysSatisfied : Option Command → ShelfState → SinkState → SinkState → Status → Type 0
+SaysSatisfied c shelf old new status =
+    (tables witness : List ℕ) → c ≡ Some (check tables witness) → IsTrue shelf.told → status ≡ Yes → IsSatisfied (bytes_of shelf tables) (bytes_of shelf witness) × Puts old new satisfied_line
+
+-- one that says No has read a witness that violates them, and puts the first violation
+abbrev pub SaysViolated : Option Command → ShelfState → SinkState → SinkState → Status → Type 0
+SaysViolated c shelf old new status =
+    (tables witness : List ℕ) → c ≡ Some (check tables witness) → IsTrue shelf.told → status ≡ No → (line : List ℕ) × IsViolated (bytes_of shelf tables) (bytes_of shelf witness) line × Puts old new line
+
+-- words that fit no command are refused, unless a write fails
+abbrev pub RefusesWords : SinkState → SinkState → Status → Type 0
+RefusesWords old new status = ((status ≡ Words) × Puts old new words_line) ⊎ ((status ≡ WriteFault) × Rose old.faults new.faults)
+
+-- a first part of some line was put
+abbrev pub PutsPart : SinkState → SinkState → Type 0
+PutsPart old new = (line : List ℕ) × PutsPrefix old new line

@@ -1,0 +1,119 @@
+-- What is due to words, by the bytes of the files.
+use Rattle.std.specs.Prelude.{◌≡◌, ℕ, ◌<◌, ◌≤◌, ◌⊎◌, nat_lt, Bool, true, false, List, length, Option, Some, None, Result, Ok, Err, MatchResult}
+use Rattle.std.specs.Bool.{MatchBool}
+use Rattle.byte_ends.specs.Shelf.{ShelfState, bytes_of, ReadFailed}
+use Rattle.table_text.specs.declared.decl.Decl.{Decl}
+use Rattle.table_text.specs.declared.fault.TextFault.{TextFault}
+use Rattle.table_text.specs.Faults.{IsTablesText, IsFirstFault}
+use Rattle.m3_tool.specs.declared.shape.TableShape.{TableShape}
+use Rattle.m3_tool.specs.declared.judge.Violation.{Violation}
+use Rattle.m3_tool.specs.declared.witness.WitnessStop.{WitnessStop}
+use Rattle.m3_tool.specs.declared.witness.WitnessStop.TheVariants as stop
+use Rattle.m3_tool.specs.declared.status.Status.{Status}
+use Rattle.m3_tool.specs.declared.status.Status.TheVariants.{Yes, No, Words, Tables, Witness, ReadFault, WriteFault, TooLarge, NoMemory, TooLong}
+use Rattle.m3_tool.specs.Shape.{shape_of}
+use Rattle.m3_tool.specs.Filling.{Filling}
+use Rattle.m3_tool.specs.Satisfies.{Satisfies, IsFirstViolation}
+use Rattle.m3_tool.specs.Witness.{Witness as Given, witness_of, filling_of}
+use Rattle.m3_tool.specs.Command.{Command, check, help, version}
+use Rattle.m3_tool.specs.Lines.{satisfied_line, violation_line, text_fault_line, shape_fault_line, witness_fault_line, too_large_line, too_long_line, words_line, no_memory_line, help_text, version_line}
+
+-- the most bytes that a file of tables may have, and a file of a witness
+abbrev pub max_tables_file : ℕ
+max_tables_file = 1048576
+
+abbrev pub max_witness_file : ℕ
+max_witness_file = 16777216
+
+-- how a run ends, and what it puts
+pub record Answer : Type 0 where
+  pub status : Status
+  pub line : List ℕ
+
+abbrev pub answer : Status → List ℕ → Answer
+answer status line = record { status = status; line = line }
+
+-- the values satisfy the tables, or this is the first violation
+abbrev pub IsJudgement : List TableShape → List ℕ → Filling → Answer → Type 0
+IsJudgement tables rows filling a =
+    (Satisfies tables rows filling × (a ≡ answer Yes satisfied_line))
+    ⊎ ((v : Violation) × (first : IsFirstViolation tables rows filling v) × (a ≡ answer No (violation_line first.table first.constraint v)))
+
+abbrev pub witness_refusal : WitnessStop → Answer
+witness_refusal (stop.Fault fault) = answer Witness (witness_fault_line fault)
+witness_refusal (stop.TooLarge log_bits) = answer TooLarge (too_large_line log_bits)
+witness_refusal stop.NoMemory = answer NoMemory no_memory_line
+
+-- the witness is refused, or the values that it gives are judged
+abbrev pub IsWitnessAnswer : List TableShape → List ℕ → Answer → Type 0
+IsWitnessAnswer tables witness a = MatchResult (witness_of tables witness) (λ (w : Given). IsJudgement tables w.rows (filling_of tables w) a) (λ stop. a ≡ witness_refusal stop)
+
+-- a file of a witness is too long, or it is read
+abbrev pub IsWitnessFileAnswer : List TableShape → List ℕ → Answer → Type 0
+IsWitnessFileAnswer tables witness a = MatchBool (nat_lt max_witness_file (length witness)) (a ≡ answer TooLong (too_long_line max_witness_file)) (IsWitnessAnswer tables witness a)
+
+-- the declarations have no shape, or the witness is read
+abbrev pub IsShapeAnswer : List Decl → List ℕ → Answer → Type 0
+IsShapeAnswer decls witness a = MatchResult (shape_of decls) (λ tables. IsWitnessFileAnswer tables witness a) (λ fault. a ≡ answer Tables (shape_fault_line fault))
+
+-- the text has a fault, or its declarations are resolved
+abbrev pub IsTextAnswer : List ℕ → List ℕ → Answer → Type 0
+IsTextAnswer text witness a =
+    ((fault : TextFault) × IsFirstFault text fault × (a ≡ answer Tables (text_fault_line fault))) ⊎ ((decls : List Decl) × IsTablesText text decls × IsShapeAnswer decls witness a)
+
+-- the file of tables is too long, or its text is judged
+abbrev pub IsCheckAnswer : List ℕ → List ℕ → Answer → Type 0
+IsCheckAnswer text witness a = MatchBool (nat_lt max_tables_file (length text)) (a ≡ answer TooLong (too_long_line max_tables_file)) (IsTextAnswer text witness a)
+
+-- the answer that is due to words, by the bytes of the files that they name
+abbrev pub IsDue : Option Command → ShelfState → Answer → Type 0
+IsDue None shelf a = a ≡ answer Words words_line
+IsDue (Some (check tables witness)) shelf a = IsCheckAnswer (bytes_of shelf tables) (bytes_of shelf witness) a
+IsDue (Some help) shelf a = a ≡ answer Yes help_text
+IsDue (Some version) shelf a = a ≡ answer Yes version_line
+
+-- a status that the bytes of the files don't tell: a fault of the outside, or want of memory
+abbrev pub is_outside : Status → Bool
+is_outside ReadFault = true
+is_outside WriteFault = true
+is_outside NoMemory = true
+is_outside Yes = false
+is_outside No = false
+is_outside Words = false
+is_outside Tables = false
+is_outside Witness = false
+is_outside TooLarge = false
+is_outside TooLong = false
+
+-- a read of one of two files has failed
+abbrev pub EitherReadFailed : ShelfState → ShelfState → List ℕ → List ℕ → Type 0
+EitherReadFailed old new first second = ReadFailed old new first ⊎ ReadFailed old new second
+
+-- a read of a file that the command reads has failed
+abbrev pub ReadsFailed : Option Command → ShelfState → ShelfState → Type 0
+ReadsFailed None old new = ⊥
+ReadsFailed (Some (check tables witness)) old new = EitherReadFailed old new tables witness
+ReadsFailed (Some help) old new = ⊥
+ReadsFailed (Some version) old new = ⊥
+
+-- values that satisfy tables
+pub record IsSatisfied (text witness : List ℕ) : Type 0 where
+  pub decls : List Decl
+  pub tables : List TableShape
+  pub given : Given
+  pub text_is : IsTablesText text decls
+  pub shape_is : shape_of decls ≡ Ok tables
+  pub witness_is : witness_of tables witness ≡ Ok given
+  pub satisfies : Satisfies tables given.rows (filling_of tables given)
+
+-- values that violate tables, and the line that says where first
+pub record IsViolated (text witness line : List ℕ) : Type 0 where
+  pub decls : List Decl
+  pub tables : List TableShape
+  pub given : Given
+  pub text_is : IsTablesText text decls
+  pub shape_is : shape_of decls ≡ Ok tables
+  pub witness_is : witness_of tables witness ≡ Ok given
+  pub violation : Violation
+  pub first : IsFirstViolation tables given.rows (filling_of tables given) violation
+  pub line_is : line ≡ violation_line first.table first.constraint violation
