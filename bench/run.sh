@@ -4,9 +4,9 @@
 set -e
 cd "$(dirname "$0")/.."
 rounds=${1:-1000000}
-(cd crates/tower_bench && rt run > /dev/null)
 folder=$(mktemp -d)
 trap 'rm -rf "$folder"' EXIT
+(cd crates/tower_bench && rt run > "$folder/log" 2>&1) || { cat "$folder/log"; exit 1; }
 cp crates/tower_bench/out/tower_bench "$folder/proved"
 rustc -O -C target-cpu=x86-64-v2 -o "$folder/plain" bench/products.rs
 for pass in 1 2 3; do

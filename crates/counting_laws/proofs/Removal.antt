@@ -1,3 +1,4 @@
+-- A member taken out of a list, and products over equal multisets.
 use Rattle.std.proofs.Common.{◌≡◌, ℕ, suc, ◌<◌, List, [], ◌∷◌, length, Bool, true, false, cond, eqb, refl, sym, ◌∙◌, ap, arith}
 use Rattle.std.proofs.lemmas.Bool.{eqb-true, eq-eqb}
 use Rattle.tower_laws.specs.Tower.{mul}

@@ -2,12 +2,10 @@
 use Rattle.std.proofs.Common.{◌≡◌, ◌≢◌, ℕ, List, [], ◌∷◌, length, bit_xor, refl, sym, arith}
 use Rattle.tower_laws.specs.Tower.{mul}
 use Rattle.cube_laws.specs.Extension.{fold_low}
-use Rattle.tower_laws.proofs.Field.{identity, from_one, from_two, field_terms}
+use Rattle.tower_laws.proofs.Rules.{equal_from}
+use Rattle.tower_laws.proofs.Field.{identity, from_two, field_terms}
 use Rattle.tower_laws.proofs.Inverses.{zero_product}
 use Rattle.counting_laws.specs.Counting.{AtMost}
-
-equal_from : (a b : ℕ) → bit_xor a b ≡ 0 → a ≡ b
-equal_from a b e = from_one 1 e (identity (a ∷ b ∷ []) (search field_terms depth 60 fits 20000) refl)
 
 -- a line is told by two of its values
 slope : (r s a b c d : ℕ) → r ≢ s → bit_xor a (mul r (bit_xor a b)) ≡ bit_xor c (mul r (bit_xor c d)) → bit_xor a (mul s (bit_xor a b)) ≡ bit_xor c (mul s (bit_xor c d)) → bit_xor a b ≡ bit_xor c d

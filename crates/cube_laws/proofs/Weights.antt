@@ -1,6 +1,7 @@
 -- Sums and lists over an index, and the extension as a sum over positions.
 use Rattle.std.proofs.Common.{◌≡◌, ℕ, zero, suc, ◌+◌, ◌*◌, ◌/◌, ◌%◌, ◌^◌, ◌<◌, List, [], ◌∷◌, length, get_or, bit_xor, refl, sym, ◌∙◌, ap, arith, ◌++◌}
 use Rattle.std.proofs.lemmas.Nat.Bits.{bit_at_lowest, bit_at-suc}
+use Rattle.std.specs.Int.Bits.{xor_assoc}
 use Rattle.tower_laws.specs.Tower.{mul}
 use Rattle.tower_laws.proofs.Field.{identity, field_terms}
 use Rattle.cube_laws.specs.Sums.{sum_to, product_to, tabulate}
@@ -70,3 +71,9 @@ tabulate-add (suc m) n f =
 pub length-tabulate : (n : ℕ) (f : ℕ → ℕ) → length (tabulate n f) ≡ n
 length-tabulate zero f = refl
 length-tabulate (suc n) f = ap suc (length-tabulate n (λ k. f (suc k)))
+
+pub dot-append : (xs ys us vs : List ℕ) → length xs ≡ length us → dot (xs ++ ys) (us ++ vs) ≡ bit_xor (dot xs us) (dot ys vs)
+dot-append [] ys [] vs h = refl
+dot-append [] ys (u ∷ us) vs h = absurd (omega arith)
+dot-append (x ∷ xs) ys [] vs h = absurd (omega arith)
+dot-append (x ∷ xs) ys (u ∷ us) vs h = ap (bit_xor (mul x u)) (dot-append xs ys us vs (omega arith)) ∙ sym (xor_assoc (mul x u) (dot xs us) (dot ys vs))

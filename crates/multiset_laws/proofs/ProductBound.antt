@@ -3,6 +3,7 @@ use Rattle.std.proofs.Common.{◌≡◌, ◌≢◌, ℕ, suc, ◌+◌, ◌≤◌
 use Rattle.std.proofs.lemmas.Bool.{eqb-true, eqb-false, cases_lt, not-true}
 use Rattle.tower_laws.specs.Tower.{mul}
 use Rattle.poly_laws.specs.Polynomial.{horner}
+use Rattle.tower_laws.proofs.Rules.{equal_from}
 use Rattle.tower_laws.proofs.Field.{identity, from_one, field_terms}
 use Rattle.tower_laws.proofs.Inverses.{zero_product}
 use Rattle.std.specs.List.{AllByRecursion}
@@ -14,9 +15,6 @@ use Rattle.poly_laws.proofs.Products.{monic, horner-monic, length-monic, agree_e
 
 one_not_zero : (a : ℕ) → 1 ≡ a → a ≡ 0 → ⊥
 one_not_zero a e f = omega arith
-
-equal_from : (a b : ℕ) → bit_xor a b ≡ 0 → a ≡ b
-equal_from a b e = from_one 1 e (identity (a ∷ b ∷ []) (search field_terms depth 60 fits 20000) refl)
 
 -- where a product of differences is 0, the number is a member
 root_is_member : (a : ℕ) (bs : List ℕ) → product_by (bit_xor a) bs ≡ 0 → 0 < count eqb a bs

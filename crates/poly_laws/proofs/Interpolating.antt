@@ -5,11 +5,12 @@ use Rattle.tower_laws.specs.Tower.{mul}
 use Rattle.tower_laws.specs.Inverse.{inverse}
 use Rattle.std.specs.List.{AllByRecursion}
 use Rattle.counting_laws.specs.Counting.{Distinct}
+use Rattle.tower_laws.proofs.Rules.{equal_from}
 use Rattle.tower_laws.proofs.Field.{identity, field_terms}
 use Rattle.tower_laws.proofs.Inverses.{times_inverse}
 use Rattle.poly_laws.specs.Interpolation.{basis, interpolated, at}
 use Rattle.poly_laws.specs.Polynomial.{Polynomial}
-use Rattle.poly_laws.proofs.Polynomials.{constant_poly, line_poly, sum_poly, product_poly, higher_poly, same_poly, same_polys, same_of_xor}
+use Rattle.poly_laws.proofs.Polynomials.{constant_poly, line_poly, sum_poly, product_poly, higher_poly, same_poly, same_polys}
 
 pub basis-same : (i j x : ℕ) → eqb i j ≡ true → basis (suc j) i x ≡ basis j i x
 unfolding basis
@@ -66,7 +67,7 @@ one_step : (a v b : ℕ) → mul a v ≡ 1 → b ≡ 1 → mul (mul a v) b ≡ 1
 one_step a v b h k = rw (h, k) (identity [] (search field_terms depth 60 fits 20000) refl)
 
 differ : (i j : ℕ) → i ≢ j → bit_xor i j ≢ 0
-differ i j ne e = ne (same_of_xor i j e)
+differ i j ne e = ne (equal_from i j e)
 
 basis_here : (n i : ℕ) → basis n i i ≡ 1
 basis_here zero i = basis-zero i i

@@ -4,6 +4,7 @@ use Rattle.tower_laws.specs.Tower.{mul}
 use Rattle.poly_laws.specs.Polynomial.{horner, Polynomial}
 use Rattle.std.specs.List.{AllByRecursion}
 use Rattle.counting_laws.specs.Counting.{Distinct}
+use Rattle.tower_laws.proofs.Rules.{equal_from, zero_from}
 use Rattle.tower_laws.proofs.Field.{identity, from_one, from_two, field_terms}
 use Rattle.poly_laws.proofs.RootBound.{zero_by_roots, horner_zero}
 
@@ -107,21 +108,15 @@ pub same_poly : {f g : ℕ → ℕ} (d : ℕ) → ((x : ℕ) → g x ≡ f x) �
 same_poly d h p = record { coefficients = p.coefficients; short = p.short; is = λ x. h x ∙ p.is x }
 
 -- ---- two polynomials that agree at more places than their degree are the same
-xor_same : (a b : ℕ) → a ≡ b → bit_xor a b ≡ 0
-xor_same a b h = from_one 1 h (identity (a ∷ b ∷ []) (search field_terms depth 60 fits 20000) refl)
-
-pub same_of_xor : (a b : ℕ) → bit_xor a b ≡ 0 → a ≡ b
-same_of_xor a b h = from_one 1 h (identity (a ∷ b ∷ []) (search field_terms depth 60 fits 20000) refl)
-
 difference : {f g : ℕ → ℕ} {d : ℕ} (p : Polynomial d f) (q : Polynomial d g) (x : ℕ) → horner (add_lists p.coefficients q.coefficients) x ≡ bit_xor (f x) (g x)
 difference {f} {g} p q x = horner-add p.coefficients q.coefficients x ∙ sym (ap (λ w. bit_xor w (g x)) (p.is x) ∙ ap (λ w. bit_xor (horner p.coefficients x) w) (q.is x))
 
 roots : {f g : ℕ → ℕ} {d : ℕ} (p : Polynomial d f) (q : Polynomial d g) (rs : List ℕ) → AllByRecursion (λ r. f r ≡ g r) rs → AllByRecursion (λ r. horner (add_lists p.coefficients q.coefficients) r ≡ 0) rs
 roots p q [] h = tt
-roots {f} {g} p q (r ∷ rs) h = (difference p q r ∙ xor_same (f r) (g r) h.0, roots p q rs h.1)
+roots {f} {g} p q (r ∷ rs) h = (difference p q r ∙ zero_from (f r) (g r) h.0, roots p q rs h.1)
 
 pub same_polys : {f g : ℕ → ℕ} (d : ℕ) → Polynomial d f → Polynomial d g → (rs : List ℕ) → Distinct rs → AllByRecursion (λ r. f r ≡ g r) rs → d < length rs → (x : ℕ) → f x ≡ g x
 same_polys {f} {g} d p q rs u h l x =
     let s = length-add p.coefficients q.coefficients (suc d) p.short q.short in
     let z = zero_by_roots rs (add_lists p.coefficients q.coefficients) u (roots p q rs h) (omega arith) in
-    same_of_xor (f x) (g x) (sym (difference p q x) ∙ horner_zero (add_lists p.coefficients q.coefficients) x z)
+    equal_from (f x) (g x) (sym (difference p q x) ∙ horner_zero (add_lists p.coefficients q.coefficients) x z)

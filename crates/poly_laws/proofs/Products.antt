@@ -2,6 +2,7 @@
 use Rattle.std.proofs.Common.{◌≡◌, ℕ, suc, ◌≤◌, max, List, [], ◌∷◌, length, bit_xor, refl, sym, ◌∙◌, ap, arith}
 use Rattle.tower_laws.specs.Tower.{mul}
 use Rattle.poly_laws.specs.Polynomial.{horner}
+use Rattle.tower_laws.proofs.Rules.{equal_from, zero_from}
 use Rattle.tower_laws.proofs.Field.{identity, from_one, field_terms}
 use Rattle.poly_laws.proofs.RootBound.{zero_by_roots, horner_zero}
 use Rattle.poly_laws.proofs.Polynomials.{add_lists, horner-add}
@@ -48,12 +49,6 @@ one_at x = identity (x ∷ []) (search field_terms depth 60 fits 20000) refl
 pub horner-monic : (ls : List ℕ) (x : ℕ) → horner (monic ls) x ≡ product_by (bit_xor x) ls
 horner-monic [] x = one_at x
 horner-monic (a ∷ ls) x = horner-times_root a 0 (monic ls) x ∙ ap (λ w. bit_xor 0 (mul (bit_xor x a) w)) (horner-monic ls x)
-
-equal_from : (a b : ℕ) → bit_xor a b ≡ 0 → a ≡ b
-equal_from a b e = from_one 1 e (identity (a ∷ b ∷ []) (search field_terms depth 60 fits 20000) refl)
-
-zero_from : (a b : ℕ) → a ≡ b → bit_xor a b ≡ 0
-zero_from a b e = from_one 1 e (identity (a ∷ b ∷ []) (search field_terms depth 60 fits 20000) refl)
 
 roots_add_lists : (ls bs gs : List ℕ) → AllByRecursion (λ g. horner ls g ≡ horner bs g) gs → AllByRecursion (λ g. horner (add_lists ls bs) g ≡ 0) gs
 roots_add_lists ls bs [] h = tt

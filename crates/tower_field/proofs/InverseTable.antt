@@ -1,11 +1,11 @@
 -- What the table of inverses of level 3 holds.
-use Rattle.std.proofs.Common.{◌≡◌, ℕ, zero, suc, ◌-◌, ◌<◌, refl, sym, ◌∙◌, ap, arith, map, get_or, zero-add, lit<, subst}
+use Rattle.std.proofs.Common.{◌≡◌, ℕ, zero, suc, ◌<◌, refl, sym, ◌∙◌, ap, arith, map, get_or}
 use Rattle.std.specs.List.{range_with_len}
 use Rattle.std.specs.Prelude.{replicate, ltb, true, false}
 use Rattle.std.proofs.lemmas.Bool.{ltb-true}
 use Rattle.std.proofs.lemmas.Simd.{get_or-replicate}
 use Rattle.std.proofs.lemmas.List.FromFn.{get_or-map-range_with_len}
-use Rattle.tower_laws.specs.Tower.{mul, product, generator}
+use Rattle.tower_laws.specs.Tower.{product, generator}
 use Rattle.tower_laws.specs.Inverse.{inverse}
 use Rattle.tower_laws.proofs.Levels.{product_mul}
 use Rattle.tower_laws.proofs.Inverses.{inverse_unique, inverse_zero}

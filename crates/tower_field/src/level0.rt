@@ -64,11 +64,7 @@ impl Tower for B1 {
     }
 
     fn inverse(self) -> Option<B1> {
-        if self.bits == 0 {
-            None
-        } else {
-            Some(self)
-        }
+        if self.bits == 0 { None } else { Some(self) }
     }
 
     #[tactic(auto, unfolding(tower_laws::specs::Tower::generator))]

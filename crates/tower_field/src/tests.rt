@@ -41,12 +41,15 @@ fn squares_of_generators(rt: HostRuntime) {
     products::<B16>(&rt, &[(16, 16, 65), (1 << 8, 1 << 8, (1 << 12) + 1)]);
     products::<B32>(&rt, &[(16, 16, 65), (1 << 16, 1 << 16, (1 << 24) + 1)]);
     products::<B64>(&rt, &[(16, 16, 65), (1 << 32, 1 << 32, (1 << 48) + 1)]);
-    products::<B128>(&rt, &[
-        (2, 2, 3),
-        (4, 4, 9),
-        (16, 16, 65),
-        (1 << 64, 1 << 64, (1 << 96) + 1),
-    ]);
+    products::<B128>(
+        &rt,
+        &[
+            (2, 2, 3),
+            (4, 4, 9),
+            (16, 16, 65),
+            (1 << 64, 1 << 64, (1 << 96) + 1),
+        ],
+    );
 }
 
 #[test]
@@ -80,7 +83,9 @@ fn halves_and_levels(rt: HostRuntime) {
 fn inverses_below<F: Tower>(rt: &impl Abort, end: u128) {
     for n in 1..end {
         let product = match F::from_number(n) {
-            Some(element) => element.inverse().map(|inverse| inverse.mul(element).number()),
+            Some(element) => element
+                .inverse()
+                .map(|inverse| inverse.mul(element).number()),
             None => None,
         };
         assert_eq!(rt; product, Some(1), "{n}");

@@ -1,9 +1,10 @@
-use Rattle.std.proofs.Common.{◌≡◌, ℕ, zero, suc, ◌+◌, ◌*◌, ◌/◌, ◌%◌, ◌^◌, ◌<◌, ◌≤◌, ◌≢◌, List, [], ◌∷◌, refl, sym, ◌∙◌, ap, subst, arith, lt_trans, ◌⊎◌, inl, inr}
+-- Inverses, by the norm of an element.
+use Rattle.std.proofs.Common.{◌≡◌, ℕ, zero, suc, ◌^◌, ◌<◌, ◌≢◌, [], ◌∷◌, refl, ◌∙◌, ap, subst, arith, lt_trans, ◌⊎◌, inl, inr}
 use Rattle.std.proofs.lemmas.Nat.{xor_lt}
 use Rattle.std.specs.Int.Bits.{bit_xor}
 use Rattle.tower_laws.specs.Tower.{mul, generator, low, high, level, level_from}
 use Rattle.tower_laws.specs.Inverse.{norm_at, conjugate_at, inverse_at, inverse}
-use Rattle.tower_laws.proofs.Levels.{level_lt, low_lt, high_lt, size_pos, one_lt_size, size_lt, generator_lt, mul_lt, lt_size, size_mono, field_zero, field_one}
+use Rattle.tower_laws.proofs.Levels.{level_lt, low_lt, high_lt, size_pos, size_lt, generator_lt, mul_lt, lt_size, field_zero, field_one}
 use Rattle.tower_laws.proofs.Field.{field_terms, identity, from_one, from_two}
 use Rattle.tower_laws.proofs.Roots.{split, gen_square, no_norm_root}
 

@@ -1,3 +1,4 @@
+-- The laws of the product, by induction over the level, and how each level lies in the next.
 use Rattle.std.proofs.Common.{◌≡◌, ℕ, zero, suc, ◌+◌, ◌*◌, ◌/◌, ◌%◌, ◌^◌, ◌<◌, ◌≤◌, List, [], ◌∷◌, Bool, true, false, ltb, max, refl, sym, ◌∙◌, ap, subst, arith}
 use Rattle.std.proofs.Math.Nat.{mul_comm, add_comm, pow-le-pow_right, lt_of_lt_of_le, mod-eq_of_lt, div-eq_of_lt, zero-mod, zero-div, zero-add, add-zero, lt_of_le_of_lt, le-max_left, le-max_right, max_comm}
 use Rattle.std.proofs.lemmas.Nat.{xor_lt, xor_shr, xor_mod, xor_block, pow_pos, pow-add, shr_high, mod_low, mod_below, shr_split, mul-add-lt, pow_below, div_below}
@@ -55,9 +56,6 @@ product_lt (suc i) a b =
     (xor_lt (2 ^ i) _ _ (product_lt i (low i a) (low i b)) (product_lt i (high i a) (high i b)))
 
 -- the halves of a product
-pub low_half : ℕ → ℕ → ℕ → ℕ → ℕ → ℕ
-low_half i a0 a1 b0 b1 = bit_xor (product i a0 b0) (product i a1 b1)
-
 abbrev pub low_of : ℕ → ℕ → ℕ → ℕ → ℕ → ℕ
 low_of i a0 a1 b0 b1 = bit_xor (product i a0 b0) (product i a1 b1)
 

@@ -1,9 +1,11 @@
+-- The last generators, and the equations over them that have no root.
 use Rattle.std.proofs.Common.{◌≡◌, ℕ, zero, suc, ◌+◌, ◌*◌, ◌%◌, ◌^◌, ◌<◌, [], ◌∷◌, refl, sym, ◌∙◌, ap, subst, arith}
 use Rattle.std.proofs.Math.Nat.{mod-eq_of_lt, add-zero, mod_self, div_self, lt_trans}
 use Rattle.std.proofs.lemmas.Nat.{xor_comm, xor_lt, same_from_place}
 use Rattle.std.specs.Int.Bits.{bit_xor, xor_zero_l, xor_zero_r, xor_shifted}
 use Rattle.tower_laws.specs.Tower.{mul, product, generator, low, high}
 use Rattle.tower_laws.proofs.Levels.{field_one, field_zero, product_mul, product-suc, product_one, product_zero, low_lt, high_lt, join_halves, laws, size_pos, one_lt_size, size_lt, generator_lt, high_small, product_zero_r, mul_lt}
+use Rattle.tower_laws.proofs.Rules.{equal_from}
 use Rattle.tower_laws.proofs.Field.{field_terms, identity, from_one}
 
 -- the generator of level i + 1
@@ -113,9 +115,6 @@ expand_norm z0 z1 g x h =
 
 zero_gen : (x : ℕ) → 0 ≡ bit_xor 0 (mul 0 x)
 zero_gen x = identity (x ∷ []) (search field_terms depth 60 fits 20000) refl
-
-equal_from : (x y : ℕ) → bit_xor x y ≡ 0 → x ≡ y
-equal_from x y e = from_one 1 e (identity (x ∷ y ∷ []) (search field_terms depth 60 fits 20000) refl)
 
 no_norm_step : (i : ℕ) (z : ℕ) → z < 2 ^ (2 ^ suc i) → bit_xor (mul z z) (bit_xor (mul (2 ^ (2 ^ i)) z) 1) ≡ 0 → ⊥
 no_norm_step i z h e = go (low i z) (high i z) (low_lt i z) (high_lt i z) (split i z h)

@@ -1,5 +1,5 @@
 -- The laws of sum and product, as statements over all numbers.
-use Rattle.std.specs.Prelude.{◌≡◌, ◌≢◌, ℕ, ◌⊎◌, suc, bit_xor}
+use Rattle.std.specs.Prelude.{◌≡◌, ◌≢◌, ℕ, ◌⊎◌, bit_xor}
 use Rattle.tower_laws.specs.Tower.{Fits, mul, product, generator}
 use Rattle.tower_laws.specs.Inverse.{inverse}
 

@@ -1,6 +1,6 @@
 -- The transform by butterflies.
 use Rattle.std.proofs.Common.{◌≡◌, ℕ, zero, suc, ◌+◌, ◌*◌, ◌^◌, ◌<◌, List, [], ◌∷◌, ◌++◌, map, take, drop, length, bit_xor, refl, sym, ◌∙◌, ap, subst, arith, length-take, length-drop}
-use Rattle.std.specs.Int.Bits.{xor_assoc, xor_zero_r, xor_shifted}
+use Rattle.std.specs.Int.Bits.{xor_zero_r, xor_shifted}
 use Rattle.tower_laws.specs.Tower.{mul}
 use Rattle.cube_laws.specs.Extension.{dot}
 use Rattle.tower_laws.proofs.Field.{identity, from_one, field_terms}
@@ -9,7 +9,7 @@ use Rattle.cube_laws.specs.Sums.{tabulate}
 use Rattle.word_laws.specs.Encoding.{mix, encode}
 use Rattle.word_laws.proofs.Vanishing.{hat-add, hat_below, hat_one}
 use Rattle.word_laws.proofs.Words.{length-subsets, length-hats, even_place, next_place}
-use Rattle.cube_laws.proofs.Weights.{tabulate-same, tabulate-add}
+use Rattle.cube_laws.proofs.Weights.{dot-append, tabulate-same, tabulate-add}
 
 hats-snoc : (j k x : ℕ) → hats j (suc k) x ≡ hats j k x ++ (hat (j + k) x ∷ [])
 hats-snoc j zero x = let e : j ≡ j + 0 = omega arith in ap (λ n. hat n x ∷ []) e
@@ -49,12 +49,6 @@ pub length-mix : (c : ℕ) (lo hi : List ℕ) → length lo ≡ length hi → le
 length-mix c [] hi h = refl
 length-mix c (a ∷ lo) [] h = absurd (omega arith)
 length-mix c (a ∷ lo) (b ∷ hi) h = ap suc (length-mix c lo hi (omega arith))
-
-dot-append : (xs ys us vs : List ℕ) → length xs ≡ length us → dot (xs ++ ys) (us ++ vs) ≡ bit_xor (dot xs us) (dot ys vs)
-dot-append [] ys [] vs h = refl
-dot-append [] ys (u ∷ us) vs h = absurd (omega arith)
-dot-append (x ∷ xs) ys [] vs h = absurd (omega arith)
-dot-append (x ∷ xs) ys (u ∷ us) vs h = ap (bit_xor (mul x u)) (dot-append xs ys us vs (omega arith)) ∙ sym (xor_assoc (mul x u) (dot xs us) (dot ys vs))
 
 take_drop : (n : ℕ) (xs : List ℕ) → xs ≡ take n xs ++ drop n xs
 take_drop zero xs = refl

@@ -2,6 +2,7 @@
 use Rattle.std.proofs.Common.{◌≡◌, ◌≢◌, ℕ, zero, suc, ◌+◌, ◌*◌, ◌^◌, ◌<◌, [], ◌∷◌, bit_xor, refl, sym, ◌∙◌, ap, subst, arith}
 use Rattle.std.specs.Int.Bits.{xor_assoc, xor_shifted}
 use Rattle.tower_laws.specs.Tower.{mul}
+use Rattle.tower_laws.proofs.Rules.{equal_from}
 use Rattle.tower_laws.proofs.Field.{identity, from_one, field_terms}
 use Rattle.tower_laws.proofs.Inverses.{zero_product}
 use Rattle.tower_laws.proofs.Levels.{field_zero}
@@ -76,9 +77,6 @@ product_zero : (n u : ℕ) (f : ℕ → ℕ) → u < n → f u ≡ 0 → product
 product_zero zero u f h e = absurd (omega arith)
 product_zero (suc n) zero f h e = ap (λ w. mul w (product_to n (λ k. f (suc k)))) e ∙ zero_left (product_to n (λ k. f (suc k)))
 product_zero (suc n) (suc u) f h e = ap (mul (f 0)) (product_zero n u (λ k. f (suc k)) (omega arith) e) ∙ zero_right (f 0)
-
-equal_from : (a b : ℕ) → bit_xor a b ≡ 0 → a ≡ b
-equal_from a b e = from_one 1 e (identity (a ∷ b ∷ []) (search field_terms depth 60 fits 20000) refl)
 
 -- and one without is not
 product_apart : (n : ℕ) (f : ℕ → ℕ) → ((k : ℕ) → k < n → f k ≢ 0) → product_to n f ≢ 0

@@ -1,0 +1,2 @@
+pub mod Tensor
+pub mod Laws
