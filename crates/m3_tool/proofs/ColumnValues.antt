@@ -2,14 +2,14 @@
 use Rattle.std.proofs.Common.{◌≡◌, ℕ, zero, suc, ◌+◌, ◌*◌, ◌/◌, ◌%◌, ◌^◌, ◌<◌, ◌≤◌, List, [], ◌∷◌, length, get_or, Option, Some, None, Bor, unwrap_or, option_and_then, refl, sym, ap, subst, ◌∙◌, arith}
 use Rattle.std.specs.List.{slice_get}
 use Rattle.std.specs.Option.{option_copied, IfSome, IsNone, IsSomeAnd}
-use Rattle.std.proofs.Math.Nat.{pow-le-pow_right, mul-le-mul_right, mul_comm, mul_assoc}
+use Rattle.std.proofs.Math.Nat.{pow-le-pow_right, mul_comm}
 use Rattle.std.proofs.lemmas.Nat.{pow_pos, pow-add, mul-le}
 use Rattle.m3_tool.specs.declared.shape.ColumnShape.{ColumnShape}
 use Rattle.m3_tool.specs.declared.shape.TableShape.{TableShape}
 use Rattle.m3_tool.specs.Shape.{ColumnsFit, TableFits, TablesFit}
 use Rattle.m3_tool.specs.Size.{ceil_log}
-use Rattle.m3_tool.specs.Digits.{digits, number_of_bytes}
-use Rattle.m3_tool.specs.Filling.{Filling, values_of}
+use Rattle.m3_tool.specs.Digits.{number_of_bytes}
+use Rattle.m3_tool.specs.Filling.{values_of}
 use Rattle.m3_tool.specs.Stored.{IsStored, bytes_at}
 use Rattle.m3_tool.specs.Witness.{bits_of, column_values, table_values, all_values}
 use Rattle.m3_tool.proofs.CeilLog.{is_least}

@@ -1,5 +1,5 @@
 -- Steps one after the other, as loops take them.
-use Rattle.std.proofs.Common.{◌≡◌, ℕ, ◌+◌, ◌<◌, ◌≤◌, List, [], ◌∷◌, ◌++◌, length, drop, get_or, map, Result, Ok, Err, refl, sym, ap, ◌∙◌, append_assoc, arith}
+use Rattle.std.proofs.Common.{◌≡◌, ℕ, ◌+◌, ◌<◌, ◌≤◌, List, [], ◌∷◌, ◌++◌, length, drop, get_or, map, Result, Ok, Err, refl, sym, ap, ◌∙◌, append_assoc}
 use Rattle.std.proofs.lemmas.List.{append-nil, drop_all}
 use Rattle.serde_json.specs.Data.{Members}
 use Rattle.m3_tool.specs.declared.shape.ColumnShape.{ColumnShape}
@@ -7,8 +7,8 @@ use Rattle.m3_tool.specs.declared.shape.TableShape.{TableShape}
 use Rattle.m3_tool.specs.declared.witness.WitnessStop.{WitnessStop}
 use Rattle.m3_tool.specs.declared.witness.WitnessStop.TheVariants.{Fault, TooLarge, NoMemory}
 use Rattle.m3_tool.specs.Steps.{◌>>=◌}
-use Rattle.m3_tool.specs.WitnessGives.{Stops, Gives}
-use Rattle.m3_tool.specs.Witness.{object_of, objects_of, column_bytes, columns_bytes, table_bytes, tables_bytes, rows_of_tables}
+use Rattle.m3_tool.specs.WitnessGives.{Stops}
+use Rattle.m3_tool.specs.Witness.{object_of, objects_of, column_bytes, columns_bytes, table_bytes, tables_bytes}
 use Rattle.m3_tool.proofs.Bits.{drop_here}
 
 pub bind_ok : {A B E : Type 0} (r : Result A E) (f : A → Result B E) (y : B) → (r >>= f) ≡ Ok y → (x : A) × (r ≡ Ok x) × (f x ≡ Ok y)

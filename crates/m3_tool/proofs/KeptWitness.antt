@@ -1,5 +1,5 @@
 -- What a witness without fault keeps.
-use Rattle.std.proofs.Common.{◌≡◌, ℕ, zero, suc, ◌+◌, ◌*◌, ◌/◌, ◌%◌, ◌^◌, ◌<◌, ◌≤◌, ◌==◌, not, Bool, true, false, cond, leb, ltb, List, [], ◌∷◌, length, get_or, map, Option, Some, None, option_and_then, Result, Ok, Err, codes, refl, sym, ap, subst, ◌∙◌, arith}
+use Rattle.std.proofs.Common.{◌≡◌, ℕ, zero, suc, ◌+◌, ◌*◌, ◌/◌, ◌^◌, ◌<◌, ◌≤◌, ◌==◌, not, Bool, true, false, cond, leb, ltb, List, [], ◌∷◌, length, get_or, map, Option, Some, None, option_and_then, Result, Ok, Err, codes, refl, sym, ap, subst, ◌∙◌, arith}
 use Rattle.std.specs.List.{slice_get}
 use Rattle.std.specs.Option.{IsSomeAnd}
 use Rattle.std.proofs.Math.Nat.{mul_comm, mul_assoc}
@@ -19,10 +19,10 @@ use Rattle.m3_tool.specs.declared.witness.WitnessStop.TheVariants.{TooLarge}
 use Rattle.m3_tool.specs.Steps.{◌>>=◌}
 use Rattle.m3_tool.specs.Size.{ceil_log, size_log}
 use Rattle.m3_tool.specs.Shape.{column_names, table_names}
-use Rattle.m3_tool.specs.Digits.{digits, number_of_bytes}
-use Rattle.m3_tool.specs.Filling.{IsColumn, IsFilling, values_of}
+use Rattle.m3_tool.specs.Digits.{number_of_bytes}
+use Rattle.m3_tool.specs.Filling.{IsColumn, IsFilling}
 use Rattle.m3_tool.specs.Stored.{IsStored, bytes_at}
-use Rattle.m3_tool.specs.Witness.{Witness, or_refuse, unless, json_of, rows_of, object_of, objects_of, rows_of_tables, bits_of, column_values, hex_bytes, column_bytes, columns_bytes, has_other, table_bytes, tables_bytes, within_size, witness_of_objects, witness_of, all_values, filling_of}
+use Rattle.m3_tool.specs.Witness.{Witness, or_refuse, unless, json_of, rows_of, object_of, objects_of, rows_of_tables, bits_of, column_values, hex_bytes, column_bytes, columns_bytes, has_other, table_bytes, tables_bytes, within_size, witness_of_objects, witness_of, all_values}
 use Rattle.m3_tool.proofs.ByteDigits.{length-digits, no_digit, powers}
 use Rattle.m3_tool.proofs.ColumnValues.{the_column, value_at}
 use Rattle.m3_tool.proofs.Following.{bind_ok}

@@ -1,5 +1,5 @@
 -- Bytes that spell no bit past so many.
-use Rattle.std.proofs.Common.{◌≡◌, ℕ, ◌+◌, ◌-◌, ◌*◌, ◌/◌, ◌%◌, ◌^◌, ◌<◌, ◌≤◌, ltb, eqb, true, false, ◌⊎◌, List, [], ◌∷◌, length, drop, get_or, refl, sym, ap, subst, ◌∙◌, inl, inr, arith}
+use Rattle.std.proofs.Common.{◌≡◌, ℕ, ◌+◌, ◌-◌, ◌*◌, ◌/◌, ◌%◌, ◌^◌, ◌<◌, ◌≤◌, ltb, eqb, true, ◌⊎◌, List, [], ◌∷◌, length, drop, get_or, sym, ap, subst, ◌∙◌, inl, inr, arith}
 use Rattle.std.proofs.Math.Nat.{div-lt_iff_lt-mul, div-eq_of_lt}
 use Rattle.std.proofs.lemmas.Nat.{pow_pos, pow-add, le-div}
 use Rattle.std.proofs.lemmas.List.{drop_more, drop_all}

@@ -57,7 +57,7 @@ impl Store {
         &self.shape
     }
 
-    /// How many rows each table has.
+    /// How many rows each table has, at most 1048576.
     pub fn rows(&self) -> &[u32]
         ensures value { result.now ≡ self.now.rows }
         ensures fills { IsFilling self.now.tables self.now.rows self.now.filling }

@@ -40,16 +40,25 @@ pub enum WitnessPlace {
 /// What is wrong there.
 #[derive(Clone, Copy, Debug, PartialEq, Eq)]
 pub enum WitnessKind {
+    /// The file isn't UTF-8, or no JSON.
     NotJson,
+    /// The file, or what it has for a table, is no object.
     NotAnObject,
     MissingTable,
+    /// A table has no `rows`, or `rows` is no whole number from 0 to 1048576.
     BadRows,
     MissingColumn,
+    /// What a table has for a column is no text.
     NotAText,
+    /// An odd number of digits, or a character that is no hexadecimal digit.
     BadHex,
+    /// More or fewer bytes than hold the bits of the column.
     WrongLength,
+    /// A bit past those of the column is 1.
     PaddingBits,
+    /// A table has another member than `rows` and its columns.
     ExtraColumn,
+    /// The whole has another member than the tables.
     ExtraTable,
 }
 
@@ -83,6 +92,8 @@ const MAX_ROWS: u32 = 1048576;
 const MAX_SIZE_LOG: u32 = 24;
 
 /// The values that a witness file gives to the columns of tables, or its first fault.
+///
+/// The last of equal members of an object counts.
 pub fn read_witness(alloc: Global, shape: Shape, file: &[u8]) -> Result<Store, WitnessStop>
     ensures found { IfOk result (λ store. (store.tables ≡ shape) × IsOf shape file.now store.rows store.filling) }
     ensures fills { IfOk result (λ store. IsFilling store.tables store.rows store.filling) }

@@ -1,4 +1,3 @@
-use Rattle.std.proofs.Common.{arith}
 use Rattle.m3_tool.proofs.CeilLog.{from_floor, from_one}
 use Rattle.m3_tool.proofs.size.ceil_log.Goals as goal
 

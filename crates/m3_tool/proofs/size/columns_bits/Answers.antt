@@ -1,4 +1,4 @@
-use Rattle.std.proofs.Common.{◌≡◌, ◌≤◌, ◌^◌, ◌+◌, ap, ◌∙◌, sym, arith}
+use Rattle.std.proofs.Common.{◌≡◌, ◌≤◌, ◌^◌, ◌+◌, ap, ◌∙◌, arith}
 use Rattle.m3_tool.specs.Size.{ceil_log}
 use Rattle.m3_tool.proofs.Bits.{column_here, columns_more, columns_done, log_of_rows, shift_is}
 use Rattle.m3_tool.proofs.size.columns_bits.Goals as goal

@@ -1,6 +1,5 @@
-use Rattle.std.proofs.Common.{◌≡◌, ◌≤◌, ◌<◌, ◌^◌, ◌+◌, length, drop, get_or, refl, ap, subst, ◌∙◌, sym, arith}
+use Rattle.std.proofs.Common.{◌≡◌, ◌≤◌, length, drop, get_or, ap, ◌∙◌, arith}
 use Rattle.m3_tool.specs.Size.{ceil_log, tables_bits, columns_bits}
-use Rattle.m3_tool.specs.Shape.{TablesFit, TableFits, ColumnsFit}
 use Rattle.m3_tool.proofs.Bits.{table_here, tables_more, tables_done}
 use Rattle.m3_tool.proofs.size.size_log.Goals as goal
 

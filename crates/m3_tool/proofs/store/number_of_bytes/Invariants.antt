@@ -1,4 +1,4 @@
-use Rattle.std.proofs.Common.{◌≡◌, ◌-◌, ◌*◌, ◌^◌, ◌<◌, ◌≤◌, length, drop}
+use Rattle.std.proofs.Common.{◌≡◌, ◌≤◌, length, drop}
 use Rattle.m3_tool.specs.Digits.{number_of_bytes}
 use Rattle.m3_tool.proofs.store.number_of_bytes.Given as goal
 

@@ -1,4 +1,4 @@
-use Rattle.std.proofs.Common.{◌≡◌, ◌*◌, ◌%◌, ◌/◌, ◌^◌, ◌<◌, ◌≤◌, get_or, arith, rules}
+use Rattle.std.proofs.Common.{◌≡◌, ◌*◌, ◌%◌, ◌/◌, ◌^◌, ◌<◌, get_or, arith, rules}
 use Rattle.std.proofs.lemmas.Nat.{one_shl, pow_pos}
 use Rattle.m3_tool.proofs.Bits.{power_bound}
 use Rattle.m3_tool.proofs.ByteDigits.{AreBytes, part_is}

@@ -1,4 +1,4 @@
-use Rattle.std.proofs.Common.{◌≡◌, ◌*◌, ◌-◌, ◌%◌, ◌^◌, length, take, drop, ap, ◌∙◌, arith}
+use Rattle.std.proofs.Common.{◌*◌, ◌-◌, ◌%◌, ◌^◌, length, take, drop, ap, ◌∙◌, arith}
 use Rattle.std.proofs.lemmas.List.{length-take}
 use Rattle.m3_tool.specs.Digits.{number_of_bytes}
 use Rattle.m3_tool.proofs.ByteDigits.{AreBytes, slices_are, whole_is, size_is}

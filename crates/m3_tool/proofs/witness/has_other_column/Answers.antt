@@ -2,7 +2,6 @@ use Rattle.std.proofs.Common.{◌∷◌, codes, map, not, bytes_eq, string_bytes
 use Rattle.std.specs.List.{list_any}
 use Rattle.std.specs.Map.{keys_of}
 use Rattle.std.proofs.lemmas.Iterator.Search.{any_from_yields_List}
-use Rattle.m3_tool.specs.Shape.{table_names}
 use Rattle.m3_tool.proofs.Members.{has_other-keys, keys_yield}
 use Rattle.m3_tool.proofs.witness.has_other_column.Goals as goal
 

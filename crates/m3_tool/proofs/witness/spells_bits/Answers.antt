@@ -1,4 +1,4 @@
-use Rattle.std.proofs.Common.{◌≡◌, eq-eqb, ◌∙◌, arith}
+use Rattle.std.proofs.Common.{eq-eqb, ◌∙◌, arith}
 use Rattle.m3_tool.proofs.ByteDigits.{AreBytes}
 use Rattle.m3_tool.proofs.Padding.{whole_bytes_fit, last_byte_decides}
 use Rattle.m3_tool.proofs.witness.spells_bits.Goals as goal

@@ -1,4 +1,4 @@
-use Rattle.std.proofs.Common.{◌≡◌, ◌≤◌, length, ap, ◌∙◌}
+use Rattle.std.proofs.Common.{length, ap, ◌∙◌}
 use Rattle.serde_json.specs.View.{members_view}
 use Rattle.m3_tool.proofs.KeptWitness.{rows_kept}
 use Rattle.m3_tool.proofs.witness.witness_of.Goals as goal
