@@ -75,6 +75,6 @@ text_once text witness a b once (inr (d, is, p)) (inr (e, also, q)) =
 pub check_once : (text witness : List ℕ) (a b : Answer) → IsFileReadOnce text → IsCheckAnswer text witness a → IsCheckAnswer text witness b → b.status ≡ a.status
 check_once text witness a b once p q =
     elim (nat_lt max_tables_file (length text)) as (λ t. nat_lt max_tables_file (length text) ≡ t → MatchBool t (a ≡ answer TooLong (too_long_line max_tables_file)) (IsTextAnswer text witness a) → MatchBool t (b ≡ answer TooLong (too_long_line max_tables_file)) (IsTextAnswer text witness b) → b.status ≡ a.status) [
-      true ↦ λ e x y. ap (λ (s : Answer). s.status) (y ∙ sym x)
+      | true ↦ λ e x y. ap (λ (s : Answer). s.status) (y ∙ sym x)
       | false ↦ λ e x y. let within : length text ≤ max_tables_file = grind (arith, nat_tests) in text_once text witness a b (once within) x y
     ] refl p q

@@ -37,12 +37,13 @@ adds_table : (k n : ℕ) (name : List ℕ) (items : List Item) (decls : List Dec
     → new ≡ tables ++ table ∷ [] → TableFits table → length tables < max_tables → Adds n decls new all
 adds_table k n name items decls tables new begun table all adds h i e pushed fits room =
     let numbered : n ≡ k + 1 + length items = omega arith in
-    let whole : tables_of n decls (tables ++ table ∷ []) ≡ all = tables_of-table k n name items decls tables begun table h i numbered ∙ adds.4 in
-    ( adds.0.1,
-    omega (arith, adds.1),
-    subst TablesFit (sym pushed) (TablesFit-push tables table adds.2 fits),
-    omega (arith, simp length-append at (ap length pushed)),
-    subst (λ (ts : List TableShape). tables_of n decls ts ≡ all) (sym pushed) whole)
+    let whole : tables_of n decls (tables ++ table ∷ []) ≡ all = tables_of-table k n name items decls tables begun table h i numbered ∙ adds.4 in (
+      adds.0.1,
+      omega (arith, adds.1),
+      subst TablesFit (sym pushed) (TablesFit-push tables table adds.2 fits),
+      omega (arith, simp length-append at (ap length pushed)),
+      subst (λ (ts : List TableShape). tables_of n decls ts ≡ all) (sym pushed) whole,
+    )
 
 -- the same where the table is the declaration at a place
 pub adds_table_at : (i k n : ℕ) (name : List ℕ) (items : List Item) (decls : List Decl) (d : Decl) (tables new : List TableShape) (begun table : TableShape) (all : Result (List TableShape) ShapeFault)

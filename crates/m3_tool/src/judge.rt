@@ -79,12 +79,7 @@ fn values_per_row(log_values: u32) -> u32
 }
 
 /// The first value of a constraint in a row that isn't 0.
-fn first_in_row(
-    store: &Store,
-    table: u32,
-    constraint: &ConstraintShape,
-    row: u32,
-) -> Option<Found>
+fn first_in_row(store: &Store, table: u32, constraint: &ConstraintShape, row: u32) -> Option<Found>
     requires row { row < 1048576 }
     requires log_values { constraint.now.log_values ≤ 7 }
     ensures none { IfNone result (IsZeroAtIndices store.now.filling table constraint.now row (2 ^ constraint.now.log_values)) }

@@ -4,12 +4,15 @@
 mod answer;
 mod check;
 pub mod judge;
-pub mod lines;
+mod lines;
 pub mod resolve;
-pub mod run;
+mod running;
 pub mod shape;
-pub mod status;
 pub mod size;
+mod status;
 pub mod store;
 pub mod witness;
 mod words;
+
+pub use running::run;
+pub use status::Status;

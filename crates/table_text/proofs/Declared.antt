@@ -61,7 +61,7 @@ begun-file (t ∷ f) =
 few_step : (before : List Token) (t : Token) → begun before ≤ max_declarations → IsTaken before t → begun (before ++ t ∷ []) ≤ max_declarations
 few_step before t few taken =
     elim (begins_declaration t) as (λ b. begins_declaration t ≡ b → begun (before ++ t ∷ []) ≤ max_declarations) [
-      true ↦ λ begins. let e : begun (t ∷ []) ≡ 1 = ap (λ b. 0 + cond b 1 0) begins in omega (arith, begun-append before (t ∷ []), taken.few begins)
+      | true ↦ λ begins. let e : begun (t ∷ []) ≡ 1 = ap (λ b. 0 + cond b 1 0) begins in omega (arith, begun-append before (t ∷ []), taken.few begins)
       | false ↦ λ none. let e : begun (t ∷ []) ≡ 0 = ap (λ b. 0 + cond b 1 0) none in omega (arith, begun-append before (t ∷ []))
     ] refl
 

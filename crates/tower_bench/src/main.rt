@@ -3,8 +3,7 @@
 
 #![tactic(auto)]
 
-use std::env;
-use std::io;
+use std::{env, io};
 use tower_field::{B128, Tower};
 
 /// The sum of eight elements, of which each round multiplies each by the next.

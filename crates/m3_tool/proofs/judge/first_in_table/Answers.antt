@@ -12,13 +12,15 @@ first_in_rows-requires-clause-log_values c =
 pub returns-in-Some : goal.returns-in-Some
 returns-in-Some c =
     let item = rw c.as_slice-constraint-items.ensures at c.constraint-item.is in
-    let below = rw c.as_slice-constraint-items.ensures at c.loop-constraint_number-test.true in
-    ( refl, record {
-      constraint = c.constraint-item.result;
-      is = slice_get_read _ _ _ _ refl below item;
-      found = c.in-Some.ensures;
-      before = c.loop-constraint_number.invariant;
-    })
+    let below = rw c.as_slice-constraint-items.ensures at c.loop-constraint_number-test.true in (
+      refl,
+      record {
+        constraint = c.constraint-item.result;
+        is = slice_get_read _ _ _ _ refl below item;
+        found = c.in-Some.ensures;
+        before = c.loop-constraint_number.invariant;
+      },
+    )
 
 pub loop-constraint_number-preserved : goal.loop-constraint_number-preserved
 loop-constraint_number-preserved c =

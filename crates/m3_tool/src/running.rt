@@ -66,12 +66,7 @@ fn answer_to<S: Shelf>(alloc: Global, words: &[String], shelf: &mut S) -> Answer
 ///
 /// The first refusal ends the run. `bm3 check TABLES WITNESS` reads the tables and judges their
 /// text and their shape before it reads the witness. No command writes a file.
-pub fn run<S: Shelf, W: Sink>(
-    alloc: Global,
-    words: &[String],
-    shelf: &mut S,
-    out: &mut W,
-) -> Status
+pub fn run<S: Shelf, W: Sink>(alloc: Global, words: &[String], shelf: &mut S, out: &mut W) -> Status
     // The headline: a check says Yes where the witness satisfies the tables, and No, with the
     // first violation, where it doesn't.
     ensures satisfied { SaysSatisfied (command_of (map string_bytes words.now)) (S.state shelf.old) (W.state out.old) (W.state out.new) result }
@@ -105,3 +100,6 @@ pub fn run<S: Shelf, W: Sink>(
         Err(WriteFault) => Status::WriteFault,
     }
 }
+
+#[cfg(test)]
+mod tests;

@@ -3,7 +3,7 @@ use Rattle.m3_tool.specs.Answered.{answer_of}
 use Rattle.m3_tool.specs.Command.{help}
 use Rattle.m3_tool.specs.Lines.{help_text}
 use Rattle.m3_tool.proofs.Runs.{checked, printed}
-use Rattle.m3_tool.proofs.run.answer_to.Goals as goal
+use Rattle.m3_tool.proofs.running.answer_to.Goals as goal
 
 pub returns-in-Ok : goal.returns-in-Ok
 returns-in-Ok g c =

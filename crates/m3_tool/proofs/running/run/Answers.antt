@@ -1,0 +1,11 @@
+use Rattle.std.proofs.Common.{◌≡◌, false, ap}
+use Rattle.m3_tool.specs.Run.{is_outside}
+use Rattle.m3_tool.specs.Answered.{line_of}
+use Rattle.m3_tool.proofs.Violated.{violated}
+use Rattle.m3_tool.proofs.running.run.Goals as goal
+
+pub returns-in-Ok-clause-violated : goal.returns-in-Ok-clause-violated
+returns-in-Ok-clause-violated g c tables witness is told is_no =
+    let inside : is_outside c.answer_to-answer.result.status ≡ false = ap is_outside is_no in
+    let due = rw is at (c.answer_to-answer.ensures.due told inside) in
+    (line_of c.answer_to-answer.result.text, violated _ _ _ due is_no, rw c.as_bytes.ensures at c.in-Ok.ensures.done)

@@ -1,0 +1,300 @@
+//! Runs over files in memory, each with its status and all that it puts.
+
+use super::*;
+use byte_ends::{MemShelf, MemSink};
+use std::process::Abort;
+use std::test::Fail;
+
+struct Case {
+    tables: &'static str,
+    witness: &'static str,
+    status: Status,
+    text: &'static str,
+}
+
+const BITS: &str = "table t { column a : b1; zero z : a*a + a; }";
+
+/// A statement of two tables, and one whose second table is violated at its second row.
+const TWO: &str =
+    "table t { column a : b1; } table u { column b : b1; zero z : (b + 1)*b; zero y : b; }";
+
+static CHECKS: [Case; 27] = [
+    // Satisfied and violated.
+    Case {
+        tables: BITS,
+        witness: r#"{"t":{"rows":1,"a":"01"}}"#,
+        status: Status::Yes,
+        text: "satisfied\n",
+    },
+    Case {
+        tables: "table t { column a : b2; zero z : a*a + a; }",
+        witness: r#"{"t":{"rows":1,"a":"02"}}"#,
+        status: Status::No,
+        text: "violated: table t, zero z, row 0, index 0, value 0x1\n",
+    },
+    Case {
+        tables: "table t { column a : b128; zero z : a*a + 0x1000000000000000000000001; }",
+        witness: r#"{"t":{"rows":1,"a":"00000000000000000100000000000000"}}"#,
+        status: Status::Yes,
+        text: "satisfied\n",
+    },
+    Case {
+        tables: "table t { column a : b128; zero z : a*a; }",
+        witness: r#"{"t":{"rows":1,"a":"00000000000000000100000000000000"}}"#,
+        status: Status::No,
+        text: "violated: table t, zero z, row 0, index 0, value 0x1000000000000000000000001\n",
+    },
+    Case {
+        tables: "table t { zero z : 1; }",
+        witness: r#"{"t":{"rows":0}}"#,
+        status: Status::Yes,
+        text: "satisfied\n",
+    },
+    Case {
+        tables: "table t { zero z : 1; }",
+        witness: r#"{"t":{"rows":1}}"#,
+        status: Status::No,
+        text: "violated: table t, zero z, row 0, index 0, value 0x1\n",
+    },
+    Case {
+        tables: "table t { column a : b1; zero z : a + 1; }",
+        witness: r#"{"t":{"rows":3,"a":"07"}}"#,
+        status: Status::Yes,
+        text: "satisfied\n",
+    },
+    Case {
+        tables: "table t { column a : b8; zero z : a*(a + 16); }",
+        witness: r#"{"t":{"rows":3,"a":"001015"}}"#,
+        status: Status::No,
+        text: "violated: table t, zero z, row 2, index 0, value 0x58\n",
+    },
+    Case {
+        tables: TWO,
+        witness: r#"{"t":{"rows":1,"a":"01"},"u":{"rows":1,"b":"00"}}"#,
+        status: Status::Yes,
+        text: "satisfied\n",
+    },
+    Case {
+        tables: TWO,
+        witness: r#"{"t":{"rows":1,"a":"01"},"u":{"rows":2,"b":"02"}}"#,
+        status: Status::No,
+        text: "violated: table u, zero y, row 1, index 0, value 0x1\n",
+    },
+    Case {
+        tables: "",
+        witness: "{}",
+        status: Status::Yes,
+        text: "satisfied\n",
+    },
+    // The text, the shape.
+    Case {
+        tables: "table t { column a : b1 zero z : a*a + a; }",
+        witness: "{}",
+        status: Status::Tables,
+        text: "tables: Unexpected at byte 24\n",
+    },
+    Case {
+        tables: "table t { column a : b1 x 1; zero z : a*a + a; }",
+        witness: "{}",
+        status: Status::Tables,
+        text: "tables: NotBuilt at byte 24\n",
+    },
+    Case {
+        tables: "table t { zero z : 340282366920938463463374607431768211456; }",
+        witness: "{}",
+        status: Status::Tables,
+        text: "tables: NumberTooWide at byte 19\n",
+    },
+    Case {
+        tables: "table t { } table t { }",
+        witness: "{}",
+        status: Status::Tables,
+        text: "tables: DoubleName at item 1\n",
+    },
+    Case {
+        tables: "table t { column a : b1; column a : b2; }",
+        witness: "{}",
+        status: Status::Tables,
+        text: "tables: DoubleName at item 2\n",
+    },
+    Case {
+        tables: "table t { zero z : a; column a : b1; }",
+        witness: "{}",
+        status: Status::Tables,
+        text: "tables: UnknownName at item 1\n",
+    },
+    Case {
+        tables: "table t { column a : b1; zero z : a*a*a*a*a*a*a*a*a; }",
+        witness: "{}",
+        status: Status::Tables,
+        text: "tables: DegreeTooHigh at item 2\n",
+    },
+    // The witness.
+    Case {
+        tables: BITS,
+        witness: r#"{"t":{"rows":1,"a":"1"}}"#,
+        status: Status::Witness,
+        text: "witness: BadHex at table 0 column 0\n",
+    },
+    Case {
+        tables: BITS,
+        witness: r#"{"t":{"rows":1,"a":"03"}}"#,
+        status: Status::Witness,
+        text: "witness: PaddingBits at table 0 column 0\n",
+    },
+    Case {
+        tables: BITS,
+        witness: r#"{"t":{"rows":1,"a":""}}"#,
+        status: Status::Witness,
+        text: "witness: WrongLength at table 0 column 0\n",
+    },
+    Case {
+        tables: BITS,
+        witness: r#"{"t":{"rows":1}}"#,
+        status: Status::Witness,
+        text: "witness: MissingColumn at table 0 column 0\n",
+    },
+    Case {
+        tables: BITS,
+        witness: r#"{"t":{"rows":1.0,"a":"01"}}"#,
+        status: Status::Witness,
+        text: "witness: BadRows at table 0\n",
+    },
+    Case {
+        tables: BITS,
+        witness: "{",
+        status: Status::Witness,
+        text: "witness: NotJson\n",
+    },
+    Case {
+        tables: BITS,
+        witness: r#"{"t":{"rows":1,"a":"01","b":0}}"#,
+        status: Status::Witness,
+        text: "witness: ExtraColumn at table 0\n",
+    },
+    Case {
+        tables: BITS,
+        witness: r#"{"t":{"rows":1,"a":"01"},"u":0}"#,
+        status: Status::Witness,
+        text: "witness: ExtraTable\n",
+    },
+    Case {
+        tables: "table t { column a : b128; }",
+        witness: r#"{"t":{"rows":1048576,"a":""}}"#,
+        status: Status::TooLarge,
+        text: "too large: log bits 27\n",
+    },
+];
+
+/// Runs these words over these files, in pieces of some bytes, and compares the end.
+fn runs(
+    rt: &(impl Abort + AllocGlobal),
+    words: &[&str],
+    shelf: &mut MemShelf,
+    status: Status,
+    text: &str,
+) -> Result<(), Fail> {
+    let alloc = rt.alloc();
+    let mut given = Vec::new(alloc);
+    for word in words {
+        given.push(String::from_str(alloc, word)?)?;
+    }
+    let mut out = MemSink::new(alloc, 7, Vec::new(alloc), 4096)?;
+    assert_eq!(rt; run(alloc, given.as_slice(), shelf, &mut out), status);
+    assert_eq!(rt; out.bytes(), text.as_bytes());
+    Ok(())
+}
+
+#[test]
+fn checks(rt: HostRuntime) -> Result<(), Fail> {
+    let alloc = rt.alloc();
+    for case in &CHECKS {
+        let mut shelf = MemShelf::new(alloc, 5, Vec::new(alloc));
+        shelf.put_file("T", case.tables.as_bytes())?;
+        shelf.put_file("W", case.witness.as_bytes())?;
+        runs(
+            &rt,
+            &["check", "T", "W"],
+            &mut shelf,
+            case.status,
+            case.text,
+        )?;
+    }
+    Ok(())
+}
+
+#[test]
+fn words_and_missing_files(rt: HostRuntime) -> Result<(), Fail> {
+    let alloc = rt.alloc();
+    let mut shelf = MemShelf::new(alloc, 4096, Vec::new(alloc));
+    shelf.put_file("T", BITS.as_bytes())?;
+    runs(&rt, &[], &mut shelf, Status::Words, "words\n")?;
+    runs(&rt, &["check", "T"], &mut shelf, Status::Words, "words\n")?;
+    runs(
+        &rt,
+        &["check", "T", "T", "T"],
+        &mut shelf,
+        Status::Words,
+        "words\n",
+    )?;
+    runs(
+        &rt,
+        &["--help", "check"],
+        &mut shelf,
+        Status::Words,
+        "words\n",
+    )?;
+    runs(&rt, &["--version"], &mut shelf, Status::Yes, "bm3 0.1.0\n")?;
+    runs(&rt, &["--help"], &mut shelf, Status::Yes, HELP)?;
+    runs(
+        &rt,
+        &["check", "U", "T"],
+        &mut shelf,
+        Status::ReadFault,
+        "read fault\n",
+    )?;
+    runs(
+        &rt,
+        &["check", "T", "U"],
+        &mut shelf,
+        Status::ReadFault,
+        "read fault\n",
+    )
+}
+
+#[test]
+fn files_at_their_limit(rt: HostRuntime) -> Result<(), Fail> {
+    let alloc = rt.alloc();
+    let mut spaces = Vec::new(alloc);
+    for _ in 0..1_048_576u32 {
+        spaces.push(b' ')?;
+    }
+    let mut shelf = MemShelf::new(alloc, 65_536, Vec::new(alloc));
+    shelf.put_file("T", spaces.as_slice())?;
+    shelf.put_file("W", b"{}")?;
+    runs(
+        &rt,
+        &["check", "T", "W"],
+        &mut shelf,
+        Status::Yes,
+        "satisfied\n",
+    )?;
+    spaces.push(b' ')?;
+    shelf.put_file("T", spaces.as_slice())?;
+    let text = "too long: more than 1048576 bytes\n";
+    runs(&rt, &["check", "T", "W"], &mut shelf, Status::TooLong, text)
+}
+
+#[test]
+fn a_sink_that_fails(rt: HostRuntime) -> Result<(), Fail> {
+    let alloc = rt.alloc();
+    let mut shelf = MemShelf::new(alloc, 4096, Vec::new(alloc));
+    let mut failing = Vec::new(alloc);
+    failing.push(1)?;
+    let mut out = MemSink::new(alloc, 2, failing, 4096)?;
+    let words = Vec::new(alloc);
+    let status = run(alloc, words.as_slice(), &mut shelf, &mut out);
+    assert_eq!(rt; status, Status::WriteFault);
+    assert_eq!(rt; out.bytes(), b"wo".as_slice());
+    Ok(())
+}
