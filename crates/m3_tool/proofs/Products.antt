@@ -1,5 +1,5 @@
 -- A product over a list, one factor after another.
-use Rattle.std.proofs.Common.{◌≡◌, ℕ, suc, ◌<◌, ◌≤◌, ◌+◌, List, [], ◌∷◌, length, drop, get_or, map, refl, sym, ◌∙◌, ap, subst, drop-cons, add-one}
+use Rattle.std.proofs.Common.{◌≡◌, ℕ, ◌<◌, ◌≤◌, ◌+◌, List, ◌∷◌, length, drop, get_or, map, refl, sym, ◌∙◌, subst, drop-cons, add-one}
 use Rattle.std.proofs.lemmas.List.{drop_all}
 use Rattle.tower_laws.specs.Tower.{mul}
 use Rattle.tower_laws.proofs.Levels.{field_one, field_comm, field_assoc}

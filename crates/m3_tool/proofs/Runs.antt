@@ -1,12 +1,13 @@
 -- What the answer to words says of a run.
-use Rattle.std.proofs.Common.{◌≡◌, ◌≢◌, ℕ, List, false, Option, Some, None, refl, sym, ◌∙◌, ap, subst, arith}
+use Rattle.std.proofs.Common.{◌≡◌, ◌≢◌, ℕ, List, Option, Some, None, refl, sym, ◌∙◌, ap, subst, arith, inl, inr}
 use Rattle.std.specs.Prelude.{IsTrue}
-use Rattle.byte_ends.specs.Shelf.{ShelfState, bytes_of, SameFaults, ReadsOnly, ReadFailed}
+use Rattle.byte_ends.specs.Shelf.{ShelfState, bytes_of, SameFaults, ReadsOnly}
 use Rattle.m3_tool.specs.declared.status.Status.{Status}
 use Rattle.m3_tool.specs.declared.status.Status.TheVariants.{Yes, No, Words, Tables, Witness, ReadFault, WriteFault, TooLarge, NoMemory, TooLong}
-use Rattle.m3_tool.specs.Command.{Command, check, help, version}
+use Rattle.m3_tool.specs.Command.{Command, check}
 use Rattle.m3_tool.specs.Checking.{EndsCheck}
-use Rattle.m3_tool.specs.Run.{Answer, answer, IsCheckAnswer, IsDue}
+use Rattle.m3_tool.specs.Run.{Answer, answer, IsCheckAnswer, IsDue, is_outside}
+use Rattle.m3_tool.specs.Headline.{MayPut}
 use Rattle.m3_tool.specs.Answered.{IsFileReadOnce, IsAnswered}
 use Rattle.m3_tool.proofs.Once.{check_once}
 
@@ -81,3 +82,19 @@ printed c d shelf line a is fits one due same = subst (λ (e : Option Command). 
 
     yes_memory : Yes ≡ NoMemory → ⊥
     yes_memory e = cc
+
+-- what an answer puts is due, or is the line of a fault of the outside
+pub may_put : (c : Option Command) (old new : ShelfState) (a : Answer) → IsAnswered c old new a → MayPut c old a.line
+may_put c old new a is =
+    elim a.status as (λ (s : Status). a.status ≡ s → MayPut c old a.line) [
+      | Yes ↦ λ e. inl (λ told. (a, is.due told (ap is_outside e), refl))
+      | No ↦ λ e. inl (λ told. (a, is.due told (ap is_outside e), refl))
+      | Words ↦ λ e. inl (λ told. (a, is.due told (ap is_outside e), refl))
+      | Tables ↦ λ e. inl (λ told. (a, is.due told (ap is_outside e), refl))
+      | Witness ↦ λ e. inl (λ told. (a, is.due told (ap is_outside e), refl))
+      | ReadFault ↦ λ e. inr (inl (is.read_fault e).1)
+      | WriteFault ↦ λ e. absurd (is.no_write e)
+      | TooLarge ↦ λ e. inl (λ told. (a, is.due told (ap is_outside e), refl))
+      | NoMemory ↦ λ e. inr (inr (is.no_memory e))
+      | TooLong ↦ λ e. inl (λ told. (a, is.due told (ap is_outside e), refl))
+    ] refl

@@ -1,5 +1,5 @@
 -- A check that answers No has found a first violation.
-use Rattle.std.proofs.Common.{◌≡◌, ◌⊎◌, ℕ, List, length, Bool, true, false, Result, Ok, Err, refl, sym, ◌∙◌, ap, inl, inr}
+use Rattle.std.proofs.Common.{◌≡◌, ℕ, List, length, Bool, true, false, Result, Ok, Err, refl, sym, ◌∙◌, ap, inl, inr}
 use Rattle.std.specs.Prelude.{nat_lt, MatchResult}
 use Rattle.std.specs.Bool.{MatchBool}
 use Rattle.table_text.specs.declared.decl.Decl.{Decl}
@@ -9,11 +9,11 @@ use Rattle.m3_tool.specs.declared.resolve.ShapeFault.{ShapeFault}
 use Rattle.m3_tool.specs.declared.witness.WitnessStop.{WitnessStop}
 use Rattle.m3_tool.specs.declared.witness.WitnessStop.TheVariants as stop
 use Rattle.m3_tool.specs.declared.status.Status.{Status}
-use Rattle.m3_tool.specs.declared.status.Status.TheVariants.{Yes, No, Tables, Witness, TooLarge, NoMemory, TooLong}
+use Rattle.m3_tool.specs.declared.status.Status.TheVariants.{Yes, No, Tables, TooLong}
 use Rattle.m3_tool.specs.Shape.{shape_of}
 use Rattle.m3_tool.specs.Witness.{Witness as Given, witness_of, filling_of}
 use Rattle.m3_tool.specs.Lines.{too_long_line, shape_fault_line}
-use Rattle.m3_tool.specs.Run.{Answer, answer, IsJudgement, IsWitnessAnswer, IsWitnessFileAnswer, IsShapeAnswer, IsTextAnswer, IsCheckAnswer, IsViolated, max_tables_file, max_witness_file, witness_refusal}
+use Rattle.m3_tool.specs.Run.{Answer, answer, IsJudgement, IsWitnessAnswer, IsWitnessFileAnswer, IsTextAnswer, IsCheckAnswer, IsViolated, max_tables_file, max_witness_file, witness_refusal}
 
 status_of : (a : Answer) (s : Status) (line : List ℕ) → a ≡ answer s line → a.status ≡ No → s ≡ No
 status_of a s line is is_no = sym (ap (λ (x : Answer). x.status) is) ∙ is_no

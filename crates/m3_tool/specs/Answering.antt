@@ -1,5 +1,5 @@
 -- What the program's own types stand for.
-use Rattle.std.specs.Prelude.{◌≡◌, ℕ, List, Option, Some, None}
+use Rattle.std.specs.Prelude.{Option, Some, None}
 use Rattle.m3_tool.specs.declared.words.Command.{Command as Given}
 use Rattle.m3_tool.specs.declared.words.Command.TheVariants as given
 use Rattle.m3_tool.specs.Command.{Command, check, help, version}

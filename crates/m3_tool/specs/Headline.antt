@@ -1,12 +1,12 @@
 -- What a run promises.
-use Rattle.std.specs.Prelude.{◌≡◌, ℕ, ◌⊎◌, IsTrue, List, Option, Some, None}
+use Rattle.std.specs.Prelude.{◌≡◌, ℕ, ◌⊎◌, IsTrue, List, Option, Some}
 use Rattle.byte_ends.specs.Counts.{Rose}
 use Rattle.byte_ends.specs.Shelf.{ShelfState, bytes_of}
 use Rattle.byte_ends.specs.Sink.{SinkState, Puts, PutsPrefix}
 use Rattle.m3_tool.specs.declared.status.Status.{Status}
 use Rattle.m3_tool.specs.declared.status.Status.TheVariants.{Yes, No, Words, WriteFault}
 use Rattle.m3_tool.specs.Command.{Command, check}
-use Rattle.m3_tool.specs.Lines.{satisfied_line, words_line}
+use Rattle.m3_tool.specs.Lines.{satisfied_line, words_line, read_fault_line, no_memory_line}
 use Rattle.m3_tool.specs.Run.{Answer, IsDue, IsSatisfied, IsViolated}
 
 -- the answer that is due has this status, and its line was put
@@ -34,6 +34,12 @@ SaysViolated c shelf old new status =
 abbrev pub RefusesWords : SinkState → SinkState → Status → Type 0
 RefusesWords old new status = ((status ≡ Words) × Puts old new words_line) ⊎ ((status ≡ WriteFault) × Rose old.faults new.faults)
 
--- a first part of some line was put
-abbrev pub PutsPart : SinkState → SinkState → Type 0
-PutsPart old new = (line : List ℕ) × PutsPrefix old new line
+-- a line that a run may put: the one that is due where the files are told, or that of a fault of the outside
+abbrev pub MayPut : Option Command → ShelfState → List ℕ → Type 0
+MayPut c shelf line = (IsTrue shelf.told → (a : Answer) × IsDue c shelf a × (line ≡ a.line)) ⊎ ((line ≡ read_fault_line) ⊎ (line ≡ no_memory_line))
+
+-- a first part of such a line was put
+pub record PutsPart (c : Option Command) (shelf : ShelfState) (old new : SinkState) : Type 0 where
+  pub line : List ℕ
+  pub may : MayPut c shelf line
+  pub part : PutsPrefix old new line

@@ -1,5 +1,5 @@
 -- What is due to words, by the bytes of the files.
-use Rattle.std.specs.Prelude.{◌≡◌, ℕ, ◌<◌, ◌≤◌, ◌⊎◌, nat_lt, Bool, true, false, List, length, Option, Some, None, Result, Ok, Err, MatchResult}
+use Rattle.std.specs.Prelude.{◌≡◌, ℕ, ◌⊎◌, nat_lt, Bool, true, false, List, length, Option, Some, None, Ok, MatchResult}
 use Rattle.std.specs.Bool.{MatchBool}
 use Rattle.byte_ends.specs.Shelf.{ShelfState, bytes_of, ReadFailed}
 use Rattle.table_text.specs.declared.decl.Decl.{Decl}

@@ -83,7 +83,7 @@ pub fn run<S: Shelf, W: Sink>(alloc: Global, words: &[String], shelf: &mut S, ou
 
     // A fault of the outside comes only where its count rose.
     ensures read_fault { result ≡ Status.ReadFault → ReadsFailed (command_of (map string_bytes words.now)) (S.state shelf.old) (S.state shelf.new) × Puts (W.state out.old) (W.state out.new) read_fault_line }
-    ensures write_fault { result ≡ Status.WriteFault → Rose (W.state out.old).faults (W.state out.new).faults × PutsPart (W.state out.old) (W.state out.new) }
+    ensures write_fault { result ≡ Status.WriteFault → Rose (W.state out.old).faults (W.state out.new).faults × PutsPart (command_of (map string_bytes words.now)) (S.state shelf.old) (W.state out.old) (W.state out.new) }
     ensures no_memory { result ≡ Status.NoMemory → Puts (W.state out.old) (W.state out.new) no_memory_line }
 
     // A count that rose shows in the status.

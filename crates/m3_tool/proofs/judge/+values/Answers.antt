@@ -1,5 +1,4 @@
-use Rattle.std.proofs.Common.{ℕ, ◌∙◌, ap, slice_index}
-use Rattle.tower_laws.specs.Tower.{mul}
+use Rattle.std.proofs.Common.{ℕ, slice_index}
 use Rattle.tower_laws.proofs.Levels.{field_one}
 use Rattle.m3_tool.specs.Value.{value}
 use Rattle.m3_tool.specs.Filling.{values_of}

@@ -1,5 +1,5 @@
-use Rattle.std.proofs.Common.{◌≤◌, ℕ, length, refl, subst, sym, arith}
-use Rattle.std.proofs.lemmas.Option.{slice_get_read, slice_get_within}
+use Rattle.std.proofs.Common.{refl, arith}
+use Rattle.std.proofs.lemmas.Option.{slice_get_read}
 use Rattle.m3_tool.proofs.Searching.{AreZero-more, ConstraintsFit-get}
 use Rattle.m3_tool.proofs.judge.first_in_table.Goals as goal
 

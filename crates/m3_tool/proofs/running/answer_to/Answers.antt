@@ -1,5 +1,4 @@
-use Rattle.std.proofs.Common.{◌≢◌, None, Some, ◌∙◌, sym, ap}
-use Rattle.m3_tool.specs.Answered.{answer_of}
+use Rattle.std.proofs.Common.{Some, sym}
 use Rattle.m3_tool.specs.Command.{help}
 use Rattle.m3_tool.specs.Lines.{help_text}
 use Rattle.m3_tool.proofs.Runs.{checked, printed}

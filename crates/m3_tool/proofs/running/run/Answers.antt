@@ -1,6 +1,7 @@
 use Rattle.std.proofs.Common.{◌≡◌, false, ap}
 use Rattle.m3_tool.specs.Run.{is_outside}
-use Rattle.m3_tool.specs.Answered.{line_of}
+use Rattle.m3_tool.specs.Answered.{answer_of, line_of}
+use Rattle.m3_tool.proofs.Runs.{may_put}
 use Rattle.m3_tool.proofs.Violated.{violated}
 use Rattle.m3_tool.proofs.running.run.Goals as goal
 
@@ -9,3 +10,14 @@ returns-in-Ok-clause-violated g c tables witness is told is_no =
     let inside : is_outside c.answer_to-answer.result.status ≡ false = ap is_outside is_no in
     let due = rw is at (c.answer_to-answer.ensures.due told inside) in
     (line_of c.answer_to-answer.result.text, violated _ _ _ due is_no, rw c.as_bytes.ensures at c.in-Ok.ensures.done)
+
+pub returns-clause-write_fault : goal.returns-clause-write_fault
+returns-clause-write_fault g c _ =
+    let faults = c.in-Err.ensures in (
+      faults.fault,
+      record {
+        line = line_of c.answer_to-answer.result.text;
+        may = may_put _ _ (g.S.Shelf.state c.answer_to-answer.new.shelf) (answer_of c.answer_to-answer.result) c.answer_to-answer.ensures;
+        part = rw c.as_bytes.ensures at faults.prefix;
+      },
+    )

@@ -1,0 +1,1 @@
+table t { column a : b1; zero z : a*a + a; }
