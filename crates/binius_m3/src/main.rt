@@ -3,8 +3,8 @@
 
 use byte_ends::{OsShelf, OsSink};
 use m3_tool::{Status, run};
-use std::alloc::Global;
 use std::process::ExitCode;
+use std::rt::Env;
 use std::{env, io};
 
 /// The words after the program's name. Those that aren't text fit no command, as no word does.
