@@ -1,8 +1,8 @@
 # Each row holds an element of 8 bits and its inverse.
 table inverses {
-  column x : b8;
-  column y : b8;
-  zero product : x * y + 1;
+  column value : b8;
+  column inverse : b8;
+  zero product : value * inverse + 1;
 }
 
 # Each row adds two bits and a carry.
