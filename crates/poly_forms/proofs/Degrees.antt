@@ -1,5 +1,5 @@
 -- The degree of a polynomial, and that it has at most as many roots.
-use Rattle.std.proofs.Common.{◌≡◌, ◌≢◌, ℕ, zero, suc, ◌+◌, ◌≤◌, ◌<◌, ◌⊎◌, inl, inr, List, [], ◌∷◌, length, slice_index, bit_xor, refl, sym, ◌∙◌, ap, arith}
+use Rattle.std.proofs.Common.{◌≡◌, ◌≢◌, ℕ, zero, suc, ◌≤◌, ◌<◌, ◌⊎◌, inl, inr, List, [], ◌∷◌, length, slice_index, bit_xor, refl, sym, ◌∙◌, ap, arith}
 use Rattle.std.specs.List.{AllByRecursion}
 use Rattle.tower_laws.specs.Tower.{mul}
 use Rattle.counting_laws.specs.Counting.{AtMost}
@@ -49,7 +49,7 @@ pub roots_by_degree : (cs : List ℕ) (d : ℕ) → IsDegree cs d → AtMost d (
 roots_by_degree cs d h =
     at_most_weaker (λ x. horner cs x ≡ 0) (λ x. horner (leading d cs) x ≡ 0) d d (λ x e. horner-leading d cs x h ∙ e) (omega arith)
     (at_most_from (λ x. horner (leading d cs) x ≡ 0) d (λ xs apart roots more.
-      leading_nonzero d cs h (zero_by_roots xs (leading d cs) apart roots (let e = length-leading d cs in omega arith))))
+    leading_nonzero d cs h (zero_by_roots xs (leading d cs) apart roots (let e = length-leading d cs in omega arith))))
 
 higher : (c : ℕ) (cs : List ℕ) (d : ℕ) → IsDegree cs d → IsDegree (c ∷ cs) (suc d)
 higher c cs d h = (h.0, go)

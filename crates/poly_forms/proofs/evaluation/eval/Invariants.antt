@@ -1,4 +1,4 @@
-use Rattle.std.proofs.Common.{◌≡◌, ◌++◌, map, reverse}
+use Rattle.std.proofs.Common.{◌≡◌, map, reverse}
 use Rattle.poly_laws.specs.Polynomial.{horner}
 use Rattle.poly_forms.proofs.evaluation.eval.Given as goal
 

@@ -1,4 +1,4 @@
-use Rattle.std.proofs.Common.{◌<◌, length, arith}
+use Rattle.std.proofs.Common.{arith}
 use Rattle.poly_forms.proofs.Degrees.{degree_below, has_degree, roots_by_degree}
 use Rattle.poly_forms.proofs.root_count.roots_bound.Goals as goal
 
