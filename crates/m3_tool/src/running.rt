@@ -90,7 +90,7 @@ pub fn run<S: Shelf, W: Sink>(alloc: Global, words: &[String], shelf: &mut S, ou
     ensures quiet_shelf { result ≢ Status.ReadFault → result ≢ Status.WriteFault → SameReadFaults (S.state shelf.old) (S.state shelf.new) }
     ensures quiet_sink { result ≢ Status.WriteFault → (W.state out.new).faults ≡ (W.state out.old).faults }
 
-    // No file is changed, whatever the status, and no write is tried.
+    // No file is changed and no fault of a write is counted, whatever the status.
     ensures reads_only { ReadsOnly (S.state shelf.old) (S.state shelf.new) }
     ensures telling { (W.state out.new).told ≡ (W.state out.old).told }
 {
