@@ -7,7 +7,7 @@ use crate::element::Tower;
 use std::marker::Model;
 
 /// An element of 1 bit: 0 or 1. A contract sees its number.
-#[derive(Clone, Copy, PartialEq, Eq, PartialOrd, Ord, Hash, Debug, Default)]
+#[derive(Clone, Copy, PartialEq, Eq, Hash, Debug, Default)]
 pub struct B1 {
     bits: u8,
 }

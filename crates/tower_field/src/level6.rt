@@ -9,7 +9,7 @@ use crate::ladder::Level;
 use std::marker::Model;
 
 /// An element of 64 bits. A contract sees its number.
-#[derive(Clone, Copy, PartialEq, Eq, PartialOrd, Ord, Hash, Debug, Default)]
+#[derive(Clone, Copy, PartialEq, Eq, Hash, Debug, Default)]
 pub struct B64 {
     bits: u64,
 }

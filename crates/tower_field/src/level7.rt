@@ -12,7 +12,7 @@ use std::marker::Model;
 use std::ops::{Add, Mul};
 
 /// An element of 128 bits. A contract sees its number.
-#[derive(Clone, Copy, PartialEq, Eq, PartialOrd, Ord, Hash, Debug, Default)]
+#[derive(Clone, Copy, PartialEq, Eq, Hash, Debug, Default)]
 pub struct B128 {
     bits: u128,
 }
