@@ -23,7 +23,7 @@ pub type Terms = Items<Term>;
 
 /// How a virtual column comes from others.
 #[derive(Debug, Drop)]
-pub enum Form {
+pub enum VirtualForm {
     Shl {
         column: Name,
         block: u128,
@@ -65,7 +65,7 @@ pub enum Item {
     },
     Virtual {
         name: Name,
-        form: Form,
+        form: VirtualForm,
     },
     Zero {
         name: Name,

@@ -16,7 +16,7 @@ mod state;
 pub mod tables;
 mod token;
 
-pub use decl::{Decl, Decls, Form, Item, Numbers, Side, TableItems, Term, Terms};
+pub use decl::{Decl, Decls, Item, Numbers, Side, TableItems, Term, Terms, VirtualForm};
 pub use expr::{Expr, Exprs, Name, Names};
 pub use fault::{TextFault, TextKind, TextStop};
 pub use read::read_tables;
