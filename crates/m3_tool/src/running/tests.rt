@@ -2,6 +2,7 @@
 
 use super::*;
 use byte_ends::{MemShelf, MemSink};
+use std::alloc::AllocError;
 use std::process::Abort;
 use std::test::Fail;
 
@@ -262,27 +263,32 @@ fn words_and_missing_files(rt: HostRuntime) -> Result<(), Fail> {
     )
 }
 
+/// A text with spaces behind it, so many bytes in all.
+fn padded(alloc: Global, text: &[u8], len: usize) -> Result<Vec<u8>, AllocError> {
+    let mut bytes = Vec::from_slice(alloc, text)?;
+    for _ in text.len()..len {
+        bytes.push(b' ')?;
+    }
+    Ok(bytes)
+}
+
 #[test]
 fn files_at_their_limit(rt: HostRuntime) -> Result<(), Fail> {
     let alloc = rt.alloc();
-    let mut spaces = Vec::new(alloc);
-    for _ in 0..1_048_576u32 {
-        spaces.push(b' ')?;
+    let tables_text = "too long: more than 1048576 bytes\n";
+    let witness_text = "too long: more than 16777216 bytes\n";
+    for (tables, witness, status, text) in [
+        (1_048_576, 2, Status::Yes, "satisfied\n"),
+        (1_048_577, 2, Status::TooLong, tables_text),
+        (0, 16_777_216, Status::Yes, "satisfied\n"),
+        (0, 16_777_217, Status::TooLong, witness_text),
+    ] {
+        let mut shelf = MemShelf::new(alloc, 65_536, Vec::new(alloc));
+        shelf.put_file("T", padded(alloc, b"", tables)?.as_slice())?;
+        shelf.put_file("W", padded(alloc, b"{}", witness)?.as_slice())?;
+        runs(&rt, &["check", "T", "W"], &mut shelf, status, text)?;
     }
-    let mut shelf = MemShelf::new(alloc, 65_536, Vec::new(alloc));
-    shelf.put_file("T", spaces.as_slice())?;
-    shelf.put_file("W", b"{}")?;
-    runs(
-        &rt,
-        &["check", "T", "W"],
-        &mut shelf,
-        Status::Yes,
-        "satisfied\n",
-    )?;
-    spaces.push(b' ')?;
-    shelf.put_file("T", spaces.as_slice())?;
-    let text = "too long: more than 1048576 bytes\n";
-    runs(&rt, &["check", "T", "W"], &mut shelf, Status::TooLong, text)
+    Ok(())
 }
 
 #[test]
