@@ -1,4 +1,5 @@
 -- How many members of a type have a property.
+-- Source: docs/LAWS.md, "counting_laws: counting and multisets".
 use Rattle.std.specs.Prelude.{◌≢◌, ◌≤◌, ℕ, List, [], ◌∷◌, length}
 use Rattle.std.specs.List.{AllByRecursion}
 

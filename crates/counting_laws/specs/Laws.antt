@@ -1,4 +1,5 @@
 -- The laws of counting, as statements.
+-- Source: docs/LAWS.md, "counting_laws: counting and multisets".
 use Rattle.std.specs.Prelude.{◌≡◌, ◌+◌, ◌↔◌, ℕ, List, Bool, true, ◌||◌, IsPermutation}
 use Rattle.counting_laws.specs.Counting.{AtMost}
 use Rattle.counting_laws.specs.Multiset.{Same, same_number, same_tuple, product_by}

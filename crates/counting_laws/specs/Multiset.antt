@@ -1,6 +1,7 @@
 -- Lists as multisets, by how often each member stands in them.
-use Rattle.std.specs.Prelude.{◌≡◌, ℕ, suc, List, [], ◌∷◌, Bool, true, false, cond, ◌==◌}
-use Rattle.tower_laws.specs.Tower.{mul}
+-- Source: docs/LAWS.md, "counting_laws: counting and multisets".
+use Rattle.std.specs.Prelude.{◌≡◌, ℕ, suc, List, [], ◌∷◌, Bool, true, false, map, cond, ◌==◌}
+use Rattle.tower_laws.specs.Lists.{product_all}
 
 -- how often x stands in a list, by a test of equality
 abbrev pub count : {X : Type 0} → (X → X → Bool) → X → List X → ℕ
@@ -24,5 +25,4 @@ same_tuple (x ∷ xs) (y ∷ ys) = cond (x == y) (same_tuple xs ys) false
 
 -- the product of f over the members of a list
 abbrev pub product_by : {X : Type 0} → (X → ℕ) → List X → ℕ
-product_by f [] = 1
-product_by f (x ∷ xs) = mul (f x) (product_by f xs)
+product_by f xs = product_all (map f xs)

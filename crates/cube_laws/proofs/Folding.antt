@@ -1,7 +1,8 @@
 -- Extensions and folds of tables.
 use Rattle.std.proofs.Common.{◌≡◌, ℕ, zero, suc, ◌+◌, ◌*◌, ◌/◌, ◌%◌, ◌<◌, ◌^◌, get_or, List, [], ◌∷◌, length, bit_xor, refl, sym, ◌∙◌, ap, arith}
 use Rattle.tower_laws.specs.Tower.{mul}
-use Rattle.cube_laws.specs.Extension.{dot, spread, weights, extension, fold_low, fold_all, bits_of, sum_all}
+use Rattle.cube_laws.specs.Extension.{dot, spread, weights, extension, fold_low, fold_all, bits_of}
+use Rattle.tower_laws.specs.Lists.{sum_all}
 use Rattle.tower_laws.proofs.Field.{identity, from_one, field_terms}
 
 step : (x a b t d e : ℕ) → d ≡ e → bit_xor (mul a (mul t (bit_xor 1 x))) (bit_xor (mul b (mul t x)) d) ≡ bit_xor (mul (bit_xor a (mul x (bit_xor a b))) t) e

@@ -1,6 +1,8 @@
 -- Multilinear extensions of tables of values, the lowest variable first.
-use Rattle.std.specs.Prelude.{ℕ, zero, suc, ◌/◌, ◌%◌, ◌^◌, List, [], ◌∷◌, get_or, bit_xor}
+-- Source: docs/LAWS.md, "cube_laws: tables over cubes".
+use Rattle.std.specs.Prelude.{ℕ, ◌/◌, ◌%◌, ◌^◌, List, [], ◌∷◌, get_or, bit_xor}
 use Rattle.tower_laws.specs.Tower.{mul}
+use Rattle.tower_laws.specs.Digits.{digits}
 use Rattle.cube_laws.specs.Sums.{sum_to, product_to}
 
 -- the sum of the products of the numbers at one place
@@ -48,10 +50,4 @@ fold_all (r ∷ rs) table = fold_all rs (fold_low r table)
 
 -- the n low bits of k, the lowest first
 abbrev pub bits_of : ℕ → ℕ → List ℕ
-bits_of zero k = []
-bits_of (suc n) k = k % 2 ∷ bits_of n (k / 2)
-
--- the sum of a table
-abbrev pub sum_all : List ℕ → ℕ
-sum_all [] = 0
-sum_all (a ∷ table) = bit_xor a (sum_all table)
+bits_of n k = digits 2 n k

@@ -1,4 +1,5 @@
 -- Forms over numbered variables.
+-- Source: docs/LAWS.md, "cube_laws: tables over cubes".
 use Rattle.std.specs.Prelude.{ℕ, suc, ◌+◌, max, List, bit_xor, slice_index}
 use Rattle.tower_laws.specs.Tower.{mul}
 

@@ -1,4 +1,5 @@
 -- The laws of extensions and of sums over cubes, as statements.
+-- Source: docs/LAWS.md, "cube_laws: tables over cubes".
 use Rattle.std.specs.Prelude.{◌≡◌, ◌≤◌, ◌<◌, ◌^◌, ℕ, suc, List, [], ◌∷◌, ◌++◌, map, length, get_or, bit_xor}
 use Rattle.counting_laws.specs.Counting.{AtMost}
 use Rattle.poly_laws.specs.Polynomial.{Polynomial}

@@ -1,4 +1,5 @@
 -- Sums over cubes of a form of the extensions of tables.
+-- Source: Diamond and Posen, ePrint 2023/1784, the section on the sumcheck; docs/LAWS.md, "cube_laws: tables over cubes".
 use Rattle.std.specs.Prelude.{◌≡◌, ℕ, zero, suc, List, [], ◌∷◌, ◌++◌, map, length, slice_index, bit_xor}
 use Rattle.cube_laws.specs.Extension.{extension}
 use Rattle.cube_laws.specs.Form.{Form, value}

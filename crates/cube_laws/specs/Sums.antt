@@ -1,4 +1,5 @@
 -- Sums, products and lists over the numbers below n, from the front.
+-- Source: docs/LAWS.md, "cube_laws: tables over cubes".
 use Rattle.std.specs.Prelude.{ℕ, zero, suc, List, [], ◌∷◌, bit_xor}
 use Rattle.tower_laws.specs.Tower.{mul}
 

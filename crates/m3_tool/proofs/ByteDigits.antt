@@ -4,7 +4,8 @@ use Rattle.std.proofs.Math.Nat.{pow-zero, pow-suc, pow-le-pow_right, mul-zero, m
 use Rattle.std.proofs.lemmas.Nat.{pow_pos, pow-add, shr-shr, mod-pow-add, mod_low, shr_high, field_of, mod_below, one_shl, and_mask}
 use Rattle.std.proofs.lemmas.List.{get_or_past, get_or-drop, length-drop, take_rest, drop_min, take_min}
 use Rattle.std.proofs.lemmas.Bool.{cases_lt}
-use Rattle.m3_tool.specs.Digits.{digits, number_of_bytes}
+use Rattle.tower_laws.specs.Digits.{digits}
+use Rattle.m3_tool.specs.Digits.{number_of_bytes}
 
 abbrev pub AreBytes : List ℕ → Type 0
 AreBytes bytes = (i : ℕ) → get_or bytes i 0 < 256

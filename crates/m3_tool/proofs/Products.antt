@@ -3,7 +3,7 @@ use Rattle.std.proofs.Common.{◌≡◌, ℕ, ◌<◌, ◌≤◌, ◌+◌, List,
 use Rattle.std.proofs.lemmas.List.{drop_all}
 use Rattle.tower_laws.specs.Tower.{mul}
 use Rattle.tower_laws.proofs.Levels.{field_one, field_comm, field_assoc}
-use Rattle.m3_tool.specs.Value.{product_all}
+use Rattle.tower_laws.specs.Lists.{product_all}
 
 mul-one : (a : ℕ) → mul a 1 ≡ a
 mul-one a = field_comm a 1 ∙ field_one a

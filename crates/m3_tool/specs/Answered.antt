@@ -1,4 +1,5 @@
 -- What the program's own answers stand for.
+-- Source: docs/ARCHITECTURE.md, "Within m3_tool".
 use Rattle.std.specs.Prelude.{◌≡◌, ◌≢◌, ◌≤◌, ℕ, false, IsTrue, List, length, Option, None, Result, Ok, Err}
 use Rattle.table_text.specs.declared.decl.Decl.{Decl}
 use Rattle.table_text.specs.declared.fault.TextFault.{TextFault}

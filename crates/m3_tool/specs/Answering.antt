@@ -1,4 +1,5 @@
 -- What the program's own types stand for.
+-- Source: docs/ARCHITECTURE.md, "Within m3_tool".
 use Rattle.std.specs.Prelude.{Option, Some, None}
 use Rattle.m3_tool.specs.declared.words.Command.{Command as Given}
 use Rattle.m3_tool.specs.declared.words.Command.TheVariants as given

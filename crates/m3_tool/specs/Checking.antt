@@ -1,4 +1,5 @@
 -- What the steps of a check say.
+-- Source: docs/ARCHITECTURE.md, "Within m3_tool".
 use Rattle.std.specs.Prelude.{◌≡◌, ◌≤◌, ℕ, List, length, Result, Ok, Err}
 use Rattle.table_text.specs.declared.decl.Decl.{Decl}
 use Rattle.table_text.specs.Faults.{IsTablesText}

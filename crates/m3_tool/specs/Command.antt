@@ -1,4 +1,5 @@
 -- The commands, and the words that mean each.
+-- Source: docs/FORMATS.md, "Commands".
 use Rattle.std.specs.Prelude.{ℕ, List, [], ◌∷◌, codes, if◌then◌else◌, Option, Some, None}
 use Rattle.std.specs.Str.{bytes_eq}
 

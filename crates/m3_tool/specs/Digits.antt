@@ -1,12 +1,8 @@
--- Numbers as lists of digits, the lowest first.
-use Rattle.std.specs.Prelude.{ℕ, zero, suc, ◌+◌, ◌*◌, ◌/◌, ◌%◌, List, [], ◌∷◌}
-
--- the lowest digits of a number, n of them
-abbrev pub digits : ℕ → ℕ → ℕ → List ℕ
-digits base zero x = []
-digits base (suc n) x = x % base ∷ digits base n (x / base)
+-- Numbers as lists of bytes, the lowest first.
+-- Source: docs/FORMATS.md, "The witness".
+use Rattle.std.specs.Prelude.{ℕ, List}
+use Rattle.tower_laws.specs.Digits.{from_digits}
 
 -- the number that bytes spell
 abbrev pub number_of_bytes : List ℕ → ℕ
-number_of_bytes [] = 0
-number_of_bytes (b ∷ bytes) = b + 256 * number_of_bytes bytes
+number_of_bytes bytes = from_digits 256 bytes

@@ -1,4 +1,5 @@
 -- The values that a witness gives to the columns.
+-- Source: docs/FORMATS.md, "The witness".
 use Rattle.std.specs.Prelude.{◌≡◌, ℕ, ◌+◌, ◌*◌, ◌^◌, ◌<◌, ◌≤◌, List, [], slice_index, slice_index_or, slice_get, length, Some}
 use Rattle.m3_tool.specs.declared.shape.ColumnShape.{ColumnShape}
 use Rattle.m3_tool.specs.declared.shape.TableShape.{TableShape}
@@ -17,8 +18,12 @@ pub record IsColumn (rows : ℕ) (shape : ColumnShape) (values : List ℕ) : Typ
   pub fits : (p : ℕ) → slice_index values p < 2 ^ (2 ^ shape.level)
   pub padded : (p : ℕ) → rows * 2 ^ shape.log_values ≤ p → slice_index values p ≡ 0
 
+-- the most rows that a table may have
+abbrev pub max_rows : ℕ
+max_rows = 1048576
+
 -- values for each column of each table, on these rows
 pub record IsFilling (tables : List TableShape) (rows : List ℕ) (filling : Filling) : Type 0 where
   pub counts : length rows ≡ length tables
-  pub few : (t : ℕ) → slice_index rows t ≤ 1048576
+  pub few : (t : ℕ) → slice_index rows t ≤ max_rows
   pub columns : (t c : ℕ) (table : TableShape) (column : ColumnShape) → slice_get tables t ≡ Some table → slice_get table.columns c ≡ Some column → IsColumn (slice_index rows t) column (values_of filling t c)

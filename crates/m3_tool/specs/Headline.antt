@@ -1,4 +1,5 @@
 -- What a run promises.
+-- Source: docs/FORMATS.md, "Commands" and "What is printed"; docs/ENDS.md, "What the calls do".
 use Rattle.std.specs.Prelude.{◌≡◌, ℕ, ◌⊎◌, IsTrue, List, Option, Some}
 use Rattle.byte_ends.specs.Counts.{Rose}
 use Rattle.byte_ends.specs.Shelf.{ShelfState, bytes_of}

@@ -1,4 +1,5 @@
 -- The lines that are printed.
+-- Source: docs/FORMATS.md, "What is printed".
 use Rattle.std.specs.Prelude.{ℕ, false, List, [], ◌++◌, codes}
 use Rattle.std.specs.Fmt.{decimal, digits}
 use Rattle.table_text.specs.declared.fault.TextFault.{TextFault}

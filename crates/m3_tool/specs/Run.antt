@@ -1,4 +1,5 @@
 -- What is due to words, by the bytes of the files.
+-- Source: docs/FORMATS.md, "Commands", "What is printed" and "Limits".
 use Rattle.std.specs.Prelude.{◌≡◌, ℕ, ◌⊎◌, nat_lt, Bool, true, false, List, length, Option, Some, None, Ok, MatchResult}
 use Rattle.std.specs.Bool.{MatchBool}
 use Rattle.byte_ends.specs.Shelf.{ShelfState, bytes_of, ReadFailed}

@@ -1,4 +1,5 @@
 -- When values satisfy tables, and the first place where they don't.
+-- Source: docs/LANGUAGE.md, "What a file means".
 use Rattle.std.specs.Prelude.{◌≡◌, ◌≢◌, ℕ, ◌+◌, ◌*◌, ◌^◌, ◌<◌, List, slice_index, slice_get, Some}
 use Rattle.m3_tool.specs.declared.shape.ConstraintShape.{ConstraintShape}
 use Rattle.m3_tool.specs.declared.shape.TableShape.{TableShape}

@@ -1,4 +1,5 @@
 -- The shape of tables: their names resolved, and the first fault of those that have none.
+-- Source: docs/LANGUAGE.md, "What a file means"; docs/FORMATS.md, "Limits".
 use Rattle.std.specs.Prelude.{ℕ, ◌+◌, ◌≤◌, nat_lt, nat_le, if◌then◌else◌, List, [], ◌∷◌, ◌++◌, length, map, Option, Some, None, option_map, Result, Ok, Err}
 use Rattle.std.specs.List.{list_any, position_from}
 use Rattle.std.specs.Str.{bytes_eq}

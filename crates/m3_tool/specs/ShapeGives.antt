@@ -1,4 +1,5 @@
 -- What a call of the program gives of what a definition gives.
+-- Source: docs/ARCHITECTURE.md, "Within m3_tool".
 use Rattle.std.specs.Prelude.{◌≡◌, Result, Ok, Err}
 use Rattle.m3_tool.specs.declared.resolve.ShapeFault.{ShapeFault}
 use Rattle.m3_tool.specs.declared.resolve.ShapeStop.{ShapeStop}

@@ -1,4 +1,5 @@
 -- How many bits the columns of all tables take.
+-- Source: docs/FORMATS.md, "The witness" and "Limits".
 use Rattle.std.specs.Prelude.{ℕ, zero, suc, ◌+◌, ◌^◌, nat_le, true, false, List, [], ◌∷◌}
 use Rattle.m3_tool.specs.declared.shape.ColumnShape.{ColumnShape}
 use Rattle.m3_tool.specs.declared.shape.TableShape.{TableShape}

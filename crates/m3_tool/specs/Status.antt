@@ -1,4 +1,5 @@
 -- The number of each status.
+-- Source: docs/FORMATS.md, "What is printed".
 use Rattle.std.specs.Prelude.{ℕ}
 use Rattle.m3_tool.specs.declared.status.Status.{Status}
 use Rattle.m3_tool.specs.declared.status.Status.TheVariants.{Yes, No, Words, Tables, Witness, ReadFault, WriteFault, TooLarge, NoMemory, TooLong}

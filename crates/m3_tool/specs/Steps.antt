@@ -1,4 +1,5 @@
 -- Steps of which the first that fails ends the whole.
+-- Source: docs/ARCHITECTURE.md, "Within m3_tool".
 use Rattle.std.specs.Prelude.{Result, Ok, Err}
 
 infixl 10 ◌>>=◌

@@ -1,11 +1,12 @@
 -- What a store holds.
+-- Source: docs/ARCHITECTURE.md, "Within m3_tool".
 use Rattle.std.specs.Prelude.{ℕ, ◌≡◌, ◌^◌, ◌<◌, ◌≤◌, List, length, slice_get, slice_index, Option, Some, option_and_then, IsSomeAnd}
 use Rattle.m3_tool.specs.declared.shape.ColumnShape.{ColumnShape}
 use Rattle.m3_tool.specs.declared.shape.TableShape.{TableShape}
 use Rattle.m3_tool.specs.Size.{size_log, max_size_log}
 use Rattle.m3_tool.specs.Digits.{number_of_bytes}
-use Rattle.m3_tool.specs.Filling.{Filling}
-use Rattle.m3_tool.specs.Witness.{bits_of, max_rows}
+use Rattle.m3_tool.specs.Filling.{Filling, max_rows}
+use Rattle.m3_tool.specs.Witness.{bits_of}
 
 pub record Stored : Type 0 where
   pub tables : List TableShape

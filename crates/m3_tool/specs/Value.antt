@@ -1,17 +1,10 @@
 -- The value of an expression, and its degree.
-use Rattle.std.specs.Prelude.{ℕ, ◌+◌, max, List, [], ◌∷◌, bit_xor}
-use Rattle.tower_laws.specs.Tower.{mul}
+-- Source: docs/LANGUAGE.md, "What a file means".
+use Rattle.std.specs.Prelude.{ℕ, ◌+◌, max, List, [], ◌∷◌}
+use Rattle.tower_laws.specs.Lists.{sum_all, product_all}
 use Rattle.m3_tool.specs.declared.shape.ShapeExpr.{ShapeExpr}
 use Rattle.m3_tool.specs.declared.shape.ShapeExpr.TheOpen.{ShapeExpr-F}
 use Rattle.m3_tool.specs.declared.shape.ShapeExpr.TheFolds.{fold-ShapeExpr}
-
-abbrev pub sum_all : List ℕ → ℕ
-sum_all [] = 0
-sum_all (x ∷ xs) = bit_xor x (sum_all xs)
-
-abbrev pub product_all : List ℕ → ℕ
-product_all [] = 1
-product_all (x ∷ xs) = mul x (product_all xs)
 
 abbrev pub value_step : (ℕ → ℕ) → ShapeExpr-F ℕ → ℕ
 value_step column (ShapeExpr-F.Number n) = n

@@ -1,4 +1,5 @@
 -- The rows and values that a witness file gives, or its first fault.
+-- Source: docs/FORMATS.md, "The witness".
 use Rattle.std.specs.Prelude.{◌≡◌, ℕ, ◌+◌, ◌*◌, ◌/◌, ◌^◌, ◌||◌, ◌==◌, not, nat_lt, nat_le, Bool, false, if◌then◌else◌, List, [], ◌∷◌, length, map, codes, Option, Some, None, option_and_then, Result, Ok, Err}
 use Rattle.std.specs.List.{list_any}
 use Rattle.std.specs.Str.{bytes_eq}
@@ -18,8 +19,9 @@ use Rattle.m3_tool.specs.declared.witness.WitnessStop.TheVariants.{Fault, TooLar
 use Rattle.m3_tool.specs.Steps.{◌>>=◌}
 use Rattle.m3_tool.specs.Size.{ceil_log, size_log, max_size_log}
 use Rattle.m3_tool.specs.Shape.{column_names, table_names}
-use Rattle.m3_tool.specs.Digits.{digits, number_of_bytes}
-use Rattle.m3_tool.specs.Filling.{Filling}
+use Rattle.tower_laws.specs.Digits.{digits}
+use Rattle.m3_tool.specs.Digits.{number_of_bytes}
+use Rattle.m3_tool.specs.Filling.{Filling, max_rows}
 
 abbrev pub refuse : {X : Type 0} → WitnessPlace → WitnessKind → Result X WitnessStop
 refuse place kind = Err (Fault (record { place = place; kind = kind }))
@@ -36,9 +38,6 @@ unless test place kind x = if test then Ok x else refuse place kind
 -- the JSON that bytes in UTF-8 spell
 abbrev pub json_of : List ℕ → Option Data
 json_of bytes = if utf8_valid_len bytes == length bytes then read bytes else None
-
-abbrev pub max_rows : ℕ
-max_rows = 1048576
 
 -- a whole number of rows that a table may have
 abbrev pub rows_of : Members → Option ℕ

@@ -1,4 +1,5 @@
 -- What a function returned, against a definition of it: they agree, unless memory ran out.
+-- Source: docs/ARCHITECTURE.md, "Within m3_tool".
 use Rattle.std.specs.Prelude.{◌≡◌, Result, Ok, Err}
 use Rattle.m3_tool.specs.declared.witness.WitnessStop.{WitnessStop}
 use Rattle.m3_tool.specs.declared.witness.WitnessStop.TheVariants.{Fault, TooLarge, NoMemory}

@@ -1,9 +1,10 @@
 //! Whether values satisfy tables.
 
 ghost use Rattle.std.specs.Prelude.{◌≡◌, ◌≤◌, ◌<◌, ◌^◌, IfNone, IfSome, length, map, slice_index};
-ghost use Rattle.m3_tool.specs.Value.{product_all, sum_all, value};
+ghost use Rattle.m3_tool.specs.Value.{value};
+ghost use Rattle.tower_laws.specs.Lists.{product_all, sum_all};
 ghost use Rattle.m3_tool.specs.Shape.{TableFits};
-ghost use Rattle.m3_tool.specs.Filling.{values_of};
+ghost use Rattle.m3_tool.specs.Filling.{max_rows, values_of};
 ghost use Rattle.m3_tool.specs.Judging.{IsZeroAtIndices, IsFirstInRow, FindsFirst, FindsFirstInTable, IsVerdict};
 
 use crate::shape::{ConstraintShape, ShapeExpr, TableShape};
@@ -80,7 +81,7 @@ fn values_per_row(log_values: u32) -> u32
 
 /// The first value of a constraint in a row that isn't 0.
 fn first_in_row(store: &Store, table: u32, constraint: &ConstraintShape, row: u32) -> Option<Found>
-    requires row { row < 1048576 }
+    requires row { row < max_rows }
     requires log_values { constraint.now.log_values ≤ 7 }
     ensures none { IfNone result (IsZeroAtIndices store.now.filling table constraint.now row (2 ^ constraint.now.log_values)) }
     ensures first { IfSome result (IsFirstInRow store.now.filling table constraint.now row) }
@@ -102,7 +103,7 @@ fn first_in_rows(
     constraint: &ConstraintShape,
     rows: u32,
 ) -> Option<Found>
-    requires rows { rows ≤ 1048576 }
+    requires rows { rows ≤ max_rows }
     requires log_values { constraint.now.log_values ≤ 7 }
     ensures { FindsFirst store.now.filling table constraint.now rows result }
 {
@@ -116,7 +117,7 @@ fn first_in_rows(
 
 /// The first violation of a table.
 fn first_in_table(store: &Store, number: u32, table: &TableShape, rows: u32) -> Option<Violation>
-    requires rows { rows ≤ 1048576 }
+    requires rows { rows ≤ max_rows }
     requires fits { TableFits table.now }
     ensures { FindsFirstInTable store.now.filling number table.now rows (length table.now.constraints) result }
 {

@@ -2,6 +2,7 @@
 
 ghost use Rattle.std.specs.Prelude.{◌≡◌, ℕ, ◌*◌, ◌^◌, ◌<◌, ◌≤◌, length, slice_index};
 ghost use Rattle.m3_tool.specs.Size.{ceil_log, columns_bits, size_log};
+ghost use Rattle.m3_tool.specs.Filling.{max_rows};
 ghost use Rattle.m3_tool.specs.Shape.{ColumnsFit, max_columns};
 
 use crate::shape::{ColumnShape, Shape};
@@ -20,7 +21,7 @@ pub fn ceil_log_is_least()
 {}
 
 fn columns_bits(rows: u32, columns: &[ColumnShape]) -> u64
-    requires rows_few { rows ≤ 1048576 }
+    requires rows_few { rows ≤ max_rows }
     requires few { length columns.now ≤ max_columns }
     requires fit { ColumnsFit columns.now }
     ensures value { result ≡ columns_bits rows columns.now }
@@ -37,7 +38,7 @@ fn columns_bits(rows: u32, columns: &[ColumnShape]) -> u64
 /// The least `e` such that the columns of all tables take at most `2 ^ e` bits.
 pub fn size_log(shape: &Shape, rows: &[u32]) -> u32
     requires counts { length rows.now ≡ length shape.now }
-    requires few { (t : ℕ) → slice_index rows.now t ≤ 1048576 }
+    requires few { (t : ℕ) → slice_index rows.now t ≤ max_rows }
     ensures { result ≡ size_log shape.now rows.now }
 {
     let mut bits = 0;

@@ -2,7 +2,8 @@
 
 ghost use Rattle.std.specs.Prelude.{◌≡◌, ℕ, ◌/◌, ◌%◌, ◌^◌, ◌<◌, ◌≤◌, length, slice_index};
 ghost use Rattle.m3_tool.specs.Filling.{values_of};
-ghost use Rattle.m3_tool.specs.Digits.{digits, number_of_bytes};
+ghost use Rattle.m3_tool.specs.Digits.{number_of_bytes};
+ghost use Rattle.tower_laws.specs.Digits.{digits};
 
 use crate::shape::Shape;
 use sqlite_items::{Items, at};

@@ -11,10 +11,10 @@ ghost use Rattle.m3_tool.specs.declared.witness.WitnessKind.TheVariants.{NotJson
 ghost use Rattle.m3_tool.specs.declared.witness.WitnessStop.{WitnessStop};
 ghost use Rattle.m3_tool.specs.declared.witness.WitnessStop.TheVariants.{Fault, NoMemory};
 ghost use Rattle.m3_tool.specs.Digits.{number_of_bytes};
-ghost use Rattle.m3_tool.specs.Filling.{IsFilling};
+ghost use Rattle.m3_tool.specs.Filling.{IsFilling, max_rows};
 ghost use Rattle.m3_tool.specs.WitnessGives.{Gives};
 ghost use Rattle.m3_tool.specs.Shape.{ColumnsFit, TableFits, TablesFit, table_names, max_columns, max_tables};
-ghost use Rattle.m3_tool.specs.Witness.{IsOf, bits_of, column_bytes, columns_bytes, has_other, hex_bytes, json_of, max_rows, object_of, objects_of, or_refuse, rows_of, rows_of_tables, table_bytes, tables_bytes, witness_of};
+ghost use Rattle.m3_tool.specs.Witness.{IsOf, bits_of, column_bytes, columns_bytes, has_other, hex_bytes, json_of, object_of, objects_of, or_refuse, rows_of, rows_of_tables, table_bytes, tables_bytes, witness_of};
 
 use crate::shape::{ColumnShape, Shape, TableShape};
 use crate::size::size_log;
@@ -86,7 +86,7 @@ impl From<AllocError> for WitnessStop {
 }
 
 /// The most rows that a table may have.
-const MAX_ROWS: u32 = 1048576;
+const MAX_ROWS: u32 = 1_048_576;
 
 /// The greatest size that is taken.
 const MAX_SIZE_LOG: u32 = 24;

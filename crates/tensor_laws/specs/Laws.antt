@@ -1,4 +1,5 @@
 -- The laws of the tensor, as statements.
+-- Source: docs/LAWS.md, "tensor_laws: rows and columns of a packed table".
 use Rattle.std.specs.Prelude.{◌≡◌, ◌<◌, ◌^◌, ◌↔◌, ℕ, List, ◌++◌, length, map}
 use Rattle.std.specs.List.{AllByRecursion}
 use Rattle.cube_laws.specs.Sums.{tabulate}

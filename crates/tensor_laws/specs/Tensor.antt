@@ -1,12 +1,13 @@
--- Columns and rows of the tensor of a point's weights and a packed table, after Diamond and Posen, ePrint 2024/504.
-use Rattle.std.specs.Prelude.{ℕ, ◌+◌, ◌*◌, List, [], ◌∷◌, ◌++◌, map}
+-- Columns and rows of the tensor of a point's weights and a packed table.
+-- Source: ePrint 2024/504, the section on ring-switching; docs/LAWS.md, "tensor_laws: rows and columns of a packed table".
+use Rattle.std.specs.Prelude.{ℕ, List, [], ◌∷◌, ◌++◌, map}
+use Rattle.tower_laws.specs.Digits.{from_digits}
 use Rattle.cube_laws.specs.Sums.{tabulate}
 use Rattle.cube_laws.specs.Extension.{bit, dot}
 
 -- the number of these bits, the lowest first
 abbrev pub from_bits : List ℕ → ℕ
-from_bits [] = 0
-from_bits (b ∷ bs) = b + 2 * from_bits bs
+from_bits bs = from_digits 2 bs
 
 -- column v, for the weights es of the high point: the sum over w of bit v of the table's number w times weight w
 abbrev pub column : List ℕ → List ℕ → ℕ → ℕ

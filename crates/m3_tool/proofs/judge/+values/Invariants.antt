@@ -1,6 +1,7 @@
 use Rattle.std.proofs.Common.{◌≡◌, ℕ, drop, map, slice_index, bit_xor}
 use Rattle.tower_laws.specs.Tower.{mul}
-use Rattle.m3_tool.specs.Value.{value, sum_all, product_all}
+use Rattle.m3_tool.specs.Value.{value}
+use Rattle.tower_laws.specs.Lists.{sum_all, product_all}
 use Rattle.m3_tool.specs.Filling.{values_of}
 use Rattle.m3_tool.proofs.judge.+values.Given as goal
 
