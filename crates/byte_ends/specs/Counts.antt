@@ -1,3 +1,5 @@
+-- How often the outside has failed.
+-- Source: docs/ENDS.md, "What they mean".
 use Rattle.std.specs.Prelude.{ℕ, ◌+◌, ◌-◌, ◌^◌, ◌≤◌, min, max}
 
 -- one more, up to the largest number of 64 bits

@@ -1,3 +1,5 @@
+-- A file in memory, and its place among others.
+-- Source: docs/ENDS.md, "The kinds".
 use Rattle.std.specs.Prelude.{ℕ, ◌-◌, ◌<◌, ◌≤◌, ◌++◌, ◌⊎◌, min, IsNone, if◌then◌else◌, Option, None, Some, unwrap_or, List, [], ◌∷◌, length}
 use Rattle.std.specs.Str.{bytes_eq}
 

@@ -1,3 +1,5 @@
+-- Files in memory as a shelf.
+-- Source: docs/ENDS.md, "The kinds".
 use Rattle.std.specs.Prelude.{ℕ, ◌-◌, min, ◌⊎◌, true, None, IsNone, unwrap_or, Contains, List, length}
 use Rattle.std.specs.Option.{option_map_or}
 use Rattle.byte_ends.specs.Counts.{raised}

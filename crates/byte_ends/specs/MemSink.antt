@@ -1,3 +1,5 @@
+-- A sink in memory.
+-- Source: docs/ENDS.md, "The kinds".
 use Rattle.std.specs.Prelude.{ℕ, ◌-◌, ◌<◌, ◌≤◌, ◌++◌, min, ◌⊎◌, true, Contains, List, length, take}
 use Rattle.byte_ends.specs.Counts.{raised}
 use Rattle.byte_ends.specs.Sink.{SinkState}

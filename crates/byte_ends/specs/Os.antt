@@ -1,3 +1,5 @@
+-- Real files and standard output, which tell counts alone.
+-- Source: docs/ENDS.md, "The kinds".
 use Rattle.std.specs.Prelude.{ℕ, false, None, []}
 use Rattle.byte_ends.specs.Counts.{FaultCounts}
 use Rattle.byte_ends.specs.Shelf.{ShelfState}

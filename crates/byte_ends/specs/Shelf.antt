@@ -1,3 +1,5 @@
+-- What a shelf means, and what its calls do.
+-- Source: docs/ENDS.md, "What they mean" and "What the calls do".
 use Rattle.std.specs.Prelude.{◌≡◌, ◌≢◌, ℕ, ◌<◌, ◌≤◌, ◌++◌, Bool, IsTrue, List, [], Option, Some, unwrap_or, length, take, drop}
 use Rattle.byte_ends.specs.Counts.{Rose}
 

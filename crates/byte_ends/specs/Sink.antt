@@ -1,3 +1,5 @@
+-- What a sink means, and what a put does.
+-- Source: docs/ENDS.md, "What they mean" and "What the calls do".
 use Rattle.std.specs.Prelude.{◌≡◌, ℕ, ◌++◌, Bool, IsTrue, List, take}
 
 -- what a sink means: the bytes that were put so far, and how often a put has failed

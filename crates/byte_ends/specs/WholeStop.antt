@@ -1,3 +1,5 @@
+-- Facts by the answer of a whole read.
+-- Source: docs/ENDS.md, "Whole files".
 use Rattle.std.specs.Prelude.{Result, Ok, Err}
 use Rattle.byte_ends.specs.declared.reading.WholeStop.{WholeStop}
 use Rattle.byte_ends.specs.declared.reading.WholeStop.TheVariants.{TooLong, ReadFault, NoMemory}

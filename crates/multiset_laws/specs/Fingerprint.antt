@@ -1,4 +1,5 @@
 -- Tuples of numbers as single numbers, by two challenges.
+-- Source: docs/LAWS.md, "multiset_laws: products that tell multisets apart".
 use Rattle.std.specs.Prelude.{ℕ, List, bit_xor}
 use Rattle.tower_laws.specs.Tower.{mul}
 use Rattle.poly_laws.specs.Polynomial.{horner}

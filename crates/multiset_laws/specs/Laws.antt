@@ -1,4 +1,5 @@
 -- The laws of products over multisets, as statements.
+-- Source: docs/LAWS.md, "multiset_laws: products that tell multisets apart".
 use Rattle.std.specs.Prelude.{◌≡◌, ◌≤◌, ◌+◌, ◌-◌, ◌*◌, max, ℕ, List, map, length, Bool, false, cond, bit_xor}
 use Rattle.std.specs.List.{AllByRecursion, filter}
 use Rattle.counting_laws.specs.Counting.{AtMost}

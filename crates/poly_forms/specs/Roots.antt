@@ -1,4 +1,5 @@
 -- Degree and roots of the polynomial with given coefficients, the lowest first.
+-- Source: docs/LAWS.md, "poly_laws: polynomials in one variable".
 use Rattle.std.specs.Prelude.{◌≡◌, ◌≢◌, ◌<◌, ℕ, List, slice_index}
 use Rattle.std.specs.List.{AllByRecursion}
 use Rattle.poly_laws.specs.Polynomial.{horner}

@@ -1,4 +1,5 @@
 -- Polynomials through values at 0, 1, 2, ..
+-- Source: docs/LAWS.md, "poly_laws: polynomials in one variable".
 use Rattle.std.specs.Prelude.{ℕ, zero, suc, eqb, true, false, List, [], ◌∷◌, length, bit_xor}
 use Rattle.tower_laws.specs.Tower.{mul}
 use Rattle.tower_laws.specs.Inverse.{inverse}

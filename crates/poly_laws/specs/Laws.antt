@@ -1,4 +1,5 @@
 -- The laws of polynomials, as statements.
+-- Source: docs/LAWS.md, "poly_laws: polynomials in one variable".
 use Rattle.std.specs.Prelude.{◌≡◌, ◌<◌, ◌+◌, ◌-◌, ℕ, List, length, slice_index, bit_xor}
 use Rattle.std.specs.List.{AllByRecursion}
 use Rattle.tower_laws.specs.Tower.{mul}

@@ -1,4 +1,5 @@
 -- Polynomials by their coefficients, the lowest first.
+-- Source: docs/LAWS.md, "poly_laws: polynomials in one variable".
 use Rattle.std.specs.Prelude.{◌≡◌, ◌≤◌, ℕ, suc, List, [], ◌∷◌, length, bit_xor}
 use Rattle.tower_laws.specs.Tower.{mul}
 

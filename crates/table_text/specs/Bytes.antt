@@ -1,4 +1,5 @@
 -- The bytes of a text and of its tokens.
+-- Source: docs/LANGUAGE.md, the opening and "Tokens".
 use Rattle.std.specs.Prelude.{ℕ, ◌+◌, ◌-◌, ◌*◌, Bool, ◌||◌, ◌&&◌, ◌==◌, nat_le, if◌then◌else◌, List, fold}
 
 abbrev pub is_between : ℕ → ℕ → ℕ → Bool

@@ -1,4 +1,5 @@
 -- Which texts are read, and the first fault of each other one.
+-- Source: docs/LANGUAGE.md, "Faults".
 use Rattle.std.specs.Prelude.{◌≡◌, ℕ, ◌-◌, ◌<◌, ◌≤◌, not, ◌==◌, if◌then◌else◌, List, [], ◌∷◌, ◌++◌, length, take, map, position, count_by, slice_get, codes, Bool, true, false, Option, Some, None, MatchOption}
 use Rattle.std.specs.List.{list_any}
 use Rattle.std.specs.Str.{bytes_eq}

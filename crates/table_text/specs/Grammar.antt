@@ -1,4 +1,5 @@
 -- The grammar: its trees, the tokens that each spells, and the declarations that it means.
+-- Source: docs/LANGUAGE.md, "Grammar".
 use Rattle.std.specs.Prelude.{◌≡◌, ℕ, ◌≤◌, List, [], ◌∷◌, ◌++◌, map, slice_index_or, codes}
 use Rattle.std.specs.List.{flat_map}
 use Rattle.table_text.specs.Lexing.{Token, name, reserved, number, mark}

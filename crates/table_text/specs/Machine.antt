@@ -1,4 +1,5 @@
 -- The reader as a machine: what it has read, and what it becomes by one token more. None: the grammar has no such token there.
+-- Source: docs/ARCHITECTURE.md, "Within table_text".
 use Rattle.std.specs.Prelude.{ℕ, ◌+◌, Bool, true, false, ◌&&◌, ◌==◌, if◌then◌else◌, List, [], ◌∷◌, ◌++◌, length, codes, Option, Some, None, option_map, option_and_then}
 use Rattle.std.specs.Str.{bytes_eq}
 use Rattle.table_text.specs.Lexing.{Token, name, reserved, number, mark, wrong}

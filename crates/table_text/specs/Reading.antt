@@ -1,4 +1,5 @@
 -- What the reader answers, as a function of the text.
+-- Source: docs/ARCHITECTURE.md, "Within table_text".
 use Rattle.std.specs.Prelude.{◌≡◌, ℕ, ◌+◌, ◌-◌, Bool, not, ◌&&◌, ◌≤◌, nat_le, if◌then◌else◌, List, [], ◌∷◌, length, position, Option, Some, None, Result, Ok, Err}
 use Rattle.table_text.specs.Bytes.{is_text}
 use Rattle.table_text.specs.Lexing.{Token, Spot, spots}

@@ -1,4 +1,5 @@
 -- The tokens of the code as tokens of a text.
+-- Source: docs/ARCHITECTURE.md, "Within table_text".
 use Rattle.std.specs.Prelude.{option_map}
 use Rattle.table_text.specs.Lexing as lexing
 use Rattle.table_text.specs.declared.token.Token.{Token}

@@ -1,4 +1,5 @@
 -- What a step of the code answers, beside what the machine does.
+-- Source: docs/ARCHITECTURE.md, "Within table_text".
 use Rattle.std.specs.Prelude.{◌≡◌, Option, Some, None, Result, Ok, Err}
 use Rattle.table_text.specs.declared.refusal.Refusal.{Refusal}
 use Rattle.table_text.specs.declared.refusal.Refusal.TheVariants.{Unexpected, NoMemory}

@@ -1,4 +1,5 @@
 -- What each list of declarations keeps.
+-- Source: docs/LANGUAGE.md, "Faults" and "What a file means".
 use Rattle.std.specs.Prelude.{ℕ, ◌+◌, ◌≤◌, List, [], ◌∷◌, length}
 use Rattle.table_text.specs.declared.decl.Item.{Item}
 use Rattle.table_text.specs.declared.decl.Item.TheVariants.{Column, Virtual, Zero, Flush}

@@ -1,4 +1,5 @@
 -- The laws of sum and product, as statements over all numbers.
+-- Source: docs/LAWS.md, "tower_laws: the field".
 use Rattle.std.specs.Prelude.{◌≡◌, ◌≢◌, ℕ, ◌⊎◌, bit_xor}
 use Rattle.tower_laws.specs.Tower.{Fits, mul, product, generator}
 use Rattle.tower_laws.specs.Inverse.{inverse}

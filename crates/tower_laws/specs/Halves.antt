@@ -1,4 +1,5 @@
 -- The halves of an element at any level. A bit is its own low half, and its high half is 0.
+-- Source: docs/LAWS.md, "tower_laws: the field".
 use Rattle.std.specs.Prelude.{◌≡◌, ℕ, zero, suc, ◌<◌}
 use Rattle.tower_laws.specs.Tower.{Fits, low, high, join}
 

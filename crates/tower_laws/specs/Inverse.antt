@@ -1,4 +1,5 @@
 -- Inverses, as a function of all numbers.
+-- Source: docs/LAWS.md, "tower_laws: the field".
 use Rattle.std.specs.Prelude.{ℕ, zero, suc, ◌^◌, bit_xor}
 use Rattle.tower_laws.specs.Tower.{mul, low, high, generator, level}
 

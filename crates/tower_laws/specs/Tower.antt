@@ -1,5 +1,6 @@
--- The binary tower fields as numbers, after Diamond and Posen, ePrint 2023/1784.
+-- The binary tower fields as numbers.
 -- An element of level i is a number below 2 ^ (2 ^ i), and the sum of two elements is `bit_xor`.
+-- Source: Diamond and Posen, ePrint 2023/1784, the section on binary towers; docs/LAWS.md, "tower_laws: the field".
 use Rattle.std.specs.Prelude.{ℕ, zero, suc, ◌+◌, ◌*◌, ◌/◌, ◌%◌, ◌^◌, ◌<◌, ltb, true, false, max, bit_xor}
 
 -- how many elements level i has

@@ -1,4 +1,5 @@
--- Code words of tables, after the novel basis of Diamond and Posen, ePrint 2024/504.
+-- Code words of tables, in the novel polynomial basis of Diamond and Posen.
+-- Source: ePrint 2024/504, the section on the novel polynomial basis; docs/LAWS.md, "word_laws: code words".
 use Rattle.std.specs.Prelude.{ℕ, zero, suc, ◌+◌, ◌*◌, ◌^◌, List, [], ◌∷◌, cond, ◌==◌, get_or, bit_xor}
 use Rattle.tower_laws.specs.Tower.{mul}
 use Rattle.tower_laws.specs.Inverse.{inverse}

@@ -1,4 +1,5 @@
 -- The additive transform by butterflies.
+-- Source: docs/LAWS.md, "word_laws: code words".
 use Rattle.std.specs.Prelude.{ℕ, zero, suc, ◌+◌, ◌*◌, ◌^◌, List, [], ◌∷◌, ◌++◌, take, drop, bit_xor}
 use Rattle.tower_laws.specs.Tower.{mul}
 use Rattle.word_laws.specs.CodeWord.{hat}

@@ -1,4 +1,5 @@
 -- The laws of code words, as statements.
+-- Source: docs/LAWS.md, "word_laws: code words".
 use Rattle.std.specs.Prelude.{◌≡◌, ◌<◌, ◌+◌, ◌*◌, ◌^◌, ℕ, suc, List, length, bit_xor}
 use Rattle.tower_laws.specs.Tower.{mul}
 use Rattle.cube_laws.specs.Sums.{tabulate}
