@@ -2,3 +2,4 @@ pub mod RootBound
 pub mod Polynomials
 pub mod Interpolating
 pub mod Products
+pub mod Terms

@@ -3,9 +3,14 @@
 use Rattle.std.specs.Prelude.{◌≡◌, ◌<◌, ◌+◌, ◌-◌, ℕ, List, length, slice_index, bit_xor}
 use Rattle.std.specs.List.{AllByRecursion}
 use Rattle.tower_laws.specs.Tower.{mul}
+use Rattle.tower_laws.specs.Lists.{sum_all}
 use Rattle.counting_laws.specs.Counting.{AtMost}
-use Rattle.poly_laws.specs.Polynomial.{horner, Polynomial}
+use Rattle.poly_laws.specs.Polynomial.{horner, terms, Polynomial}
 use Rattle.poly_laws.specs.Interpolation.{at}
+
+-- the value of a polynomial is the sum of its coefficients c_i times x ^ i
+abbrev pub ValueIsSum : Type 0
+ValueIsSum = (cs : List ℕ) (x : ℕ) → horner cs x ≡ sum_all (terms 0 cs x)
 
 -- a polynomial has fewer roots than coefficients, unless all its coefficients are 0
 abbrev pub RootsAreFew : Type 0

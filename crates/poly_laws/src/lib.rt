@@ -5,7 +5,12 @@
 
 #![tactic(auto)]
 
-ghost use Rattle.poly_laws.specs.Laws.{HaveDegrees, IsInterpolation, RootsAreFew};
+ghost use Rattle.poly_laws.specs.Laws.{HaveDegrees, IsInterpolation, RootsAreFew, ValueIsSum};
+
+/// The value of a polynomial is the sum of its coefficients times powers.
+pub fn values_are_sums()
+    ensures { ValueIsSum }
+{}
 
 /// A polynomial that is not 0 has fewer roots than coefficients.
 pub fn roots_are_few()
