@@ -1,8 +1,9 @@
 -- A sum's summand is a polynomial in each variable.
-use Rattle.std.proofs.Common.{◌≡◌, ℕ, zero, suc, ◌≤◌, max, List, [], ◌∷◌, ◌++◌, map, slice_index, bit_xor, refl, ◌∙◌, ap, arith}
+use Rattle.std.proofs.Common.{◌≡◌, ℕ, zero, suc, ◌≤◌, max, List, [], ◌∷◌, ◌++◌, map, slice_index, bit_xor, refl, sym, ◌∙◌, ap, arith}
 use Rattle.tower_laws.specs.Tower.{mul}
 use Rattle.cube_laws.specs.Extension.{dot, spread, weights, extension}
 use Rattle.tower_laws.proofs.Field.{identity, from_one, field_terms}
+use Rattle.cube_laws.proofs.Weights.{by_weights_is}
 use Rattle.cube_laws.specs.Form.{Form, constant, variable, plus, times, value, degree}
 use Rattle.cube_laws.specs.SumClaim.{cube_sum, Sum, summand, round_at}
 use Rattle.poly_laws.specs.Polynomial.{Polynomial}
@@ -82,7 +83,7 @@ pub extension_poly : (table prefix rest : List ℕ) → Polynomial 1 (λ x. exte
 extension_poly table prefix rest =
     let h = weights_lines prefix rest in
     let e = dot_line table h.starts h.slopes in
-    same_poly 1 (λ x. ap (dot table) (h.is x) ∙ e.is x) (line_poly e.start e.slope)
+    same_poly 1 (λ x. sym (by_weights_is table (prefix ++ x ∷ rest)) ∙ ap (dot table) (h.is x) ∙ e.is x) (line_poly e.start e.slope)
 
 index_poly : (lists : List (List ℕ)) (k : ℕ) (prefix rest : List ℕ) → Polynomial 1 (λ x. slice_index (map (λ f. extension f (prefix ++ x ∷ rest)) lists) k)
 index_poly [] k prefix rest = constant_poly 1 0

@@ -1,7 +1,7 @@
--- Extensions and folds of tables.
+-- Quick forms of extensions, and folds of tables.
 use Rattle.std.proofs.Common.{◌≡◌, ℕ, zero, suc, ◌+◌, ◌*◌, ◌/◌, ◌%◌, ◌<◌, ◌^◌, get_or, List, [], ◌∷◌, length, bit_xor, refl, sym, ◌∙◌, ap, arith}
 use Rattle.tower_laws.specs.Tower.{mul}
-use Rattle.cube_laws.specs.Extension.{dot, spread, weights, extension, fold_low, fold_all, bits_of}
+use Rattle.cube_laws.specs.Extension.{dot, spread, weights, extension_by_weights, fold_low, fold_all, bits_of}
 use Rattle.tower_laws.specs.Lists.{sum_all}
 use Rattle.tower_laws.proofs.Field.{identity, from_one, field_terms}
 
@@ -25,8 +25,8 @@ pub length-weights : (point : List ℕ) → length (weights point) ≡ 2 ^ lengt
 length-weights [] = refl
 length-weights (x ∷ xs) = let p : 2 ^ suc (length xs) ≡ 2 * 2 ^ length xs = omega arith in length-spread x (weights xs) ∙ ap (λ n. 2 * n) (length-weights xs) ∙ sym p
 
-pub extension-fold_low : (table : List ℕ) (x : ℕ) (xs : List ℕ) → length table ≡ 2 ^ suc (length xs) → extension table (x ∷ xs) ≡ extension (fold_low x table) xs
-extension-fold_low table x xs h = let k = length-weights xs in dot-spread x table (weights xs) (omega arith)
+pub weighted-fold_low : (table : List ℕ) (x : ℕ) (xs : List ℕ) → length table ≡ 2 ^ suc (length xs) → extension_by_weights table (x ∷ xs) ≡ extension_by_weights (fold_low x table) xs
+weighted-fold_low table x xs h = let k = length-weights xs in dot-spread x table (weights xs) (omega arith)
 
 -- ---- an entry of a fold
 pub get_or-fold_low : (x j : ℕ) (table : List ℕ) → 2 * j + 1 < length table
@@ -62,19 +62,19 @@ at_bit k q zero table h e = let p : 2 * q ≡ k = omega arith in low_bit (get_or
 at_bit k q (suc zero) table h e = high_bit (get_or table (2 * q) 0) (get_or table (2 * q + 1) 0) ∙ ap (λ m. get_or table m 0) (sym e)
 at_bit k q (suc (suc b)) table h e = absurd (omega arith)
 
-one_value : (k : ℕ) (table : List ℕ) → length table ≡ 1 → k < 1 → extension table [] ≡ get_or table k 0
+one_value : (k : ℕ) (table : List ℕ) → length table ≡ 1 → k < 1 → extension_by_weights table [] ≡ get_or table k 0
 one_value k [] h l = absurd (omega arith)
 one_value zero (a ∷ []) h l = identity (a ∷ []) (search field_terms depth 60 fits 20000) refl
 one_value (suc k) (a ∷ []) h l = absurd (omega arith)
 one_value k (a ∷ b ∷ table) h l = absurd (omega arith)
 
--- the extension has the table's values at the points of bits
-pub extension-bits : (n k : ℕ) (table : List ℕ) → length table ≡ 2 ^ n → k < 2 ^ n → extension table (bits_of n k) ≡ get_or table k 0
-extension-bits zero k table h l = one_value k table h l
-extension-bits (suc n) k table h l =
+-- the quick form of an extension has the table's values at the points of bits
+pub weighted-bits : (n k : ℕ) (table : List ℕ) → length table ≡ 2 ^ n → k < 2 ^ n → extension_by_weights table (bits_of n k) ≡ get_or table k 0
+weighted-bits zero k table h l = one_value k table h l
+weighted-bits (suc n) k table h l =
     let p : 2 ^ suc n ≡ 2 * 2 ^ n = omega arith in
-    extension-fold_low table (k % 2) (bits_of n (k / 2)) (h ∙ ap (λ m. 2 ^ suc m) (sym (length-bits_of n (k / 2))))
-    ∙ extension-bits n (k / 2) (fold_low (k % 2) table) (length-fold_low (k % 2) (2 ^ n) table (h ∙ p)) (omega arith)
+    weighted-fold_low table (k % 2) (bits_of n (k / 2)) (h ∙ ap (λ m. 2 ^ suc m) (sym (length-bits_of n (k / 2))))
+    ∙ weighted-bits n (k / 2) (fold_low (k % 2) table) (length-fold_low (k % 2) (2 ^ n) table (h ∙ p)) (omega arith)
     ∙ get_or-fold_low (k % 2) (k / 2) table (omega arith) ∙ at_bit k (k / 2) (k % 2) table (omega arith) (omega arith)
 
 -- ---- the sum of a table
@@ -109,8 +109,8 @@ dot-even x zero (a ∷ b ∷ table) ts h = absurd (omega arith)
 dot-even x (suc half) (a ∷ b ∷ table) [] h = refl
 dot-even x (suc half) (a ∷ b ∷ table) (t ∷ ts) h = step x a b t _ _ (dot-even x half table ts (omega arith))
 
-pub extension-fold_all : (rs table : List ℕ) → length table ≡ 2 ^ length rs → extension (fold_all rs table) [] ≡ extension table rs
-extension-fold_all [] table h = refl
-extension-fold_all (r ∷ rs) table h =
+pub weighted-fold_all : (rs table : List ℕ) → length table ≡ 2 ^ length rs → extension_by_weights (fold_all rs table) [] ≡ extension_by_weights table rs
+weighted-fold_all [] table h = refl
+weighted-fold_all (r ∷ rs) table h =
     let q : 2 ^ suc (length rs) ≡ 2 * 2 ^ length rs = omega arith in
-    extension-fold_all rs (fold_low r table) (length-fold_low r (2 ^ length rs) table (h ∙ q)) ∙ sym (extension-fold_low table r rs h)
+    weighted-fold_all rs (fold_low r table) (length-fold_low r (2 ^ length rs) table (h ∙ q)) ∙ sym (weighted-fold_low table r rs h)

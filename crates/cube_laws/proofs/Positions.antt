@@ -3,7 +3,7 @@ use Rattle.std.proofs.Common.{◌≡◌, ℕ, zero, suc, ◌+◌, ◌*◌, ◌^�
 use Rattle.tower_laws.specs.Tower.{mul}
 use Rattle.cube_laws.specs.Extension.{dot, extension, fold_low, weights}
 use Rattle.cube_laws.proofs.Folding.{get_or-fold_low, length-fold_low, length-weights, dot-even}
-use Rattle.cube_laws.proofs.Weights.{sum_to-same}
+use Rattle.cube_laws.proofs.Weights.{sum_to-same, by_weights_is}
 use Rattle.tower_laws.proofs.Field.{identity, from_one, field_terms}
 use Rattle.cube_laws.specs.Form.{Form, constant, variable, plus, times, value, moved}
 use Rattle.cube_laws.specs.SumClaim.{cube_sum, sum_at, round_at, row, AllLong}
@@ -20,7 +20,7 @@ long_folded r n (f ∷ fs) h = (length-fold_low r n f h.0, long_folded r n fs h.
 
 pub extensions_folded : (r n : ℕ) (x : List ℕ) (fs : List (List ℕ)) → AllLong (2 * n) fs → map (λ f. extension f (r ∷ x)) fs ≡ map (λ f. extension f x) (folded r fs)
 extensions_folded r n x [] h = refl
-extensions_folded r n x (f ∷ fs) h = let p = dot-even r n f (weights x) h.0 in let q = extensions_folded r n x fs h.1 in cc
+extensions_folded r n x (f ∷ fs) h = let p = sym (by_weights_is f (r ∷ x)) ∙ dot-even r n f (weights x) h.0 ∙ by_weights_is (fold_low r f) x in let q = extensions_folded r n x fs h.1 in cc
 
 halves_step : (a b u v w : ℕ) → bit_xor u v ≡ w → bit_xor (bit_xor a u) (bit_xor b v) ≡ bit_xor a (bit_xor b w)
 halves_step a b u v w h = from_one 1 h (identity (a ∷ b ∷ u ∷ v ∷ w ∷ []) (search field_terms depth 60 fits 20000) refl)
@@ -56,7 +56,7 @@ row_high n p (f ∷ fs) h l =
 row_one : (fs : List (List ℕ)) → AllLong 1 fs → map (λ f. extension f []) fs ≡ row fs 0
 row_one [] h = refl
 row_one ([] ∷ fs) h = let k = h.0 in absurd (omega arith)
-row_one ((a ∷ []) ∷ fs) h = let p = one_cell a in let q = row_one fs h.1 in cc
+row_one ((a ∷ []) ∷ fs) h = let p = sym (by_weights_is (a ∷ []) []) ∙ one_cell a in let q = row_one fs h.1 in cc
   where
     one_cell : (a : ℕ) → bit_xor (mul a 1) 0 ≡ a
     one_cell a = identity (a ∷ []) (search field_terms depth 60 fits 20000) refl
@@ -116,7 +116,7 @@ zero_sum z form fs h =
     cube_sum_is (length z) (times (variable 0) (moved form)) (weights z ∷ fs) (length-weights z, h)
     ∙ sum_to-same (2 ^ length z) (λ p. value (times (variable 0) (moved form)) (row (weights z ∷ fs) p)) (λ p. mul (slice_index (weights z) p) (value form (row fs p)))
     (λ p l. ap (mul (slice_index (weights z) p)) (value-moved form (slice_index (weights z) p) (row fs p)))
-    ∙ sym (dot-tabulate (2 ^ length z) (weights z) (λ p. value form (row fs p)) (length-weights z))
+    ∙ sym (dot-tabulate (2 ^ length z) (weights z) (λ p. value form (row fs p)) (length-weights z)) ∙ by_weights_is (tabulate (2 ^ length z) (λ p. value form (row fs p))) z
 
 last_step : (a b u v : ℕ) → u ≡ bit_xor b v → bit_xor a u ≡ bit_xor b (bit_xor a v)
 last_step a b u v h = from_one 1 h (identity (a ∷ b ∷ u ∷ v ∷ []) (search field_terms depth 60 fits 20000) refl)

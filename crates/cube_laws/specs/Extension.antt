@@ -1,6 +1,6 @@
 -- Multilinear extensions of tables of values, the lowest variable first.
 -- Source: docs/LAWS.md, "cube_laws: tables over cubes".
-use Rattle.std.specs.Prelude.{ℕ, ◌/◌, ◌%◌, ◌^◌, List, [], ◌∷◌, get_or, bit_xor}
+use Rattle.std.specs.Prelude.{ℕ, ◌/◌, ◌%◌, ◌^◌, List, [], ◌∷◌, length, get_or, bit_xor}
 use Rattle.tower_laws.specs.Tower.{mul}
 use Rattle.tower_laws.specs.Digits.{digits}
 use Rattle.cube_laws.specs.Sums.{sum_to, product_to}
@@ -15,27 +15,27 @@ dot (x ∷ xs) (y ∷ ys) = bit_xor (mul x y) (dot xs ys)
 abbrev pub bit : ℕ → ℕ → ℕ
 bit p k = p / 2 ^ k % 2
 
--- of the corner whose coordinates are the m low bits of p, and a point z: the product of z_k · p_k + (1 + z_k) · (1 + p_k)
-abbrev pub eq : ℕ → List ℕ → ℕ → ℕ
-eq m z p = product_to m (λ k. bit_xor (mul (get_or z k 0) (bit p k)) (mul (bit_xor 1 (get_or z k 0)) (bit_xor 1 (bit p k))))
+-- of a point z and the corner whose coordinates are the bits of p: the product over k of z_k · p_k + (1 + z_k) · (1 + p_k)
+abbrev pub eq : List ℕ → ℕ → ℕ
+eq z p = product_to (length z) (λ k. bit_xor (mul (get_or z k 0) (bit p k)) (mul (bit_xor 1 (get_or z k 0)) (bit_xor 1 (bit p k))))
 
--- the sum over all positions p of the table of its value there times eq of p and the point
-abbrev pub extension_sum : ℕ → List ℕ → List ℕ → ℕ
-extension_sum m table z = sum_to (2 ^ m) (λ p. mul (get_or table p 0) (eq m z p))
+-- the extension of a table at a point z: the sum over the positions p of the cube of the table's value at p times eq of z and p
+abbrev pub extension : List ℕ → List ℕ → ℕ
+extension table z = sum_to (2 ^ length z) (λ p. mul (get_or table p 0) (eq z p))
 
 -- each weight t as the weights t · (1 + x) and t · x of its two places
 abbrev pub spread : ℕ → List ℕ → List ℕ
 spread x [] = []
 spread x (t ∷ ts) = mul t (bit_xor 1 x) ∷ mul t x ∷ spread x ts
 
--- eq of each position and a point
+-- eq of a point and each position
 abbrev pub weights : List ℕ → List ℕ
 weights [] = 1 ∷ []
 weights (x ∷ xs) = spread x (weights xs)
 
--- the extension of a table at a point, which is `extension_sum` where the table has 2 ^ m values
-abbrev pub extension : List ℕ → List ℕ → ℕ
-extension table point = dot table (weights point)
+-- a quick form of the extension
+abbrev pub extension_by_weights : List ℕ → List ℕ → ℕ
+extension_by_weights table point = dot table (weights point)
 
 -- the table with its lowest variable set to x
 abbrev pub fold_low : ℕ → List ℕ → List ℕ

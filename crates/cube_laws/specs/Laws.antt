@@ -5,13 +5,13 @@ use Rattle.counting_laws.specs.Counting.{AtMost}
 use Rattle.poly_laws.specs.Polynomial.{Polynomial}
 use Rattle.poly_laws.specs.Interpolation.{at}
 use Rattle.cube_laws.specs.Sums.{sum_to}
-use Rattle.cube_laws.specs.Extension.{extension, extension_sum, fold_low, bits_of}
+use Rattle.cube_laws.specs.Extension.{extension, extension_by_weights, fold_low, bits_of}
 use Rattle.cube_laws.specs.Form.{Form, value, degree}
 use Rattle.cube_laws.specs.SumClaim.{Sum, cube_sum, sum_at, round_at, IsRound, row, AllLong}
 
--- the quick form of an extension is its sum over positions
-abbrev pub ExtensionIsSum : Type 0
-ExtensionIsSum = (table z : List ℕ) → length table ≡ 2 ^ length z → extension table z ≡ extension_sum (length z) table z
+-- the quick form of an extension is the extension
+abbrev pub QuickExtension : Type 0
+QuickExtension = (table z : List ℕ) → extension_by_weights table z ≡ extension table z
 
 -- at the corner of a position the extension is the table's value there
 abbrev pub ExtensionAtCorners : Type 0

@@ -5,13 +5,13 @@
 
 #![tactic(auto)]
 
-ghost use Rattle.cube_laws.specs.Laws.{AreRounds, CubeSumIsSum, ExtensionAtCorners, ExtensionIsSum, ExtensionOfFold, FoldsDiffer};
+ghost use Rattle.cube_laws.specs.Laws.{AreRounds, CubeSumIsSum, ExtensionAtCorners, ExtensionOfFold, FoldsDiffer, QuickExtension};
 
-/// What the extension of a table is.
+/// What the extension of a table is at corners and under folds, and its quick form.
 pub fn extensions()
-    ensures sum { ExtensionIsSum }
     ensures corners { ExtensionAtCorners }
     ensures fold { ExtensionOfFold }
+    ensures quick { QuickExtension }
 {}
 
 /// Lists that differ still differ after all but one value of their lowest variable.

@@ -5,7 +5,7 @@ use Rattle.cube_laws.proofs.Folding.{length-weights}
 use Rattle.std.proofs.lemmas.Nat.Bits.{bit_at_lowest, bit_at-suc, bit_at-zero, same_from_bits_below, bit_at-lt}
 use Rattle.tower_laws.specs.Tower.{mul}
 use Rattle.cube_laws.specs.Extension.{bit, dot, spread, weights, extension}
-use Rattle.cube_laws.proofs.Weights.{dot-append, length-tabulate}
+use Rattle.cube_laws.proofs.Weights.{by_weights_is, dot-append, length-tabulate}
 use Rattle.tower_laws.proofs.Field.{identity, from_one, field_terms}
 use Rattle.tower_laws.proofs.Levels.{field_zero, field_one}
 use Rattle.std.specs.List.{AllByRecursion}
@@ -193,6 +193,7 @@ pub columns_extension : (table low high : List ℕ) → dot (tabulate (2 ^ lengt
 columns_extension table low high =
     columns_at (2 ^ length low) (weights high) table (weights low)
     ∙ sym (ap (dot (bits_of_table (2 ^ length low) table)) (weights-append low high) ∙ dot-kron (2 ^ length low) table (weights low) (weights high) (length-weights low))
+    ∙ by_weights_is (bits_of_table (2 ^ length low) table) (low ++ high)
 
 -- the number of a list of bits has them
 pub bits-from_bits : (bs : List ℕ) → AllByRecursion (λ b. b < 2) bs → tabulate (length bs) (bit (from_bits bs)) ≡ bs

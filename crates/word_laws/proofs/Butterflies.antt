@@ -4,10 +4,11 @@ use Rattle.std.specs.Int.Bits.{xor_zero_r, xor_shifted}
 use Rattle.tower_laws.specs.Tower.{mul}
 use Rattle.cube_laws.specs.Extension.{dot}
 use Rattle.tower_laws.proofs.Field.{identity, from_one, field_terms}
-use Rattle.word_laws.specs.CodeWord.{hat, hats, branch, subsets, word}
+use Rattle.word_laws.specs.CodeWord.{hat, hats, branch, subsets, word, word_by_subsets}
 use Rattle.cube_laws.specs.Sums.{tabulate}
 use Rattle.word_laws.specs.Encoding.{mix, encode}
 use Rattle.word_laws.proofs.Vanishing.{hat-add, hat_below, hat_one}
+use Rattle.word_laws.proofs.WordSums.{by_subsets_is}
 use Rattle.word_laws.proofs.Words.{length-subsets, length-hats, even_place, next_place}
 use Rattle.cube_laws.proofs.Weights.{dot-append, tabulate-same, tabulate-add}
 
@@ -117,7 +118,10 @@ encode_is (suc k) b table h =
         (λ i. value k (mix (sym (high_hat k b q l) i) (take (2 ^ k) table) (drop (2 ^ k) table)) (e i)) ∙ sym (value-suc k (b * 2 ^ suc k + (2 ^ k + q)) table h)
 
 at_start : (k p : ℕ) (table : List ℕ) → value k table p ≡ word 0 k table p
-at_start k p table = let e : p ≡ p * 2 ^ 0 = omega arith in ap (value k table) e
+at_start k p table =
+    let e : p ≡ p * 2 ^ 0 = omega arith in
+    let q : value k table p ≡ word_by_subsets 0 k table p = ap (value k table) e in
+    q ∙ by_subsets_is 0 k p table
 
 pub encode_word : (k b : ℕ) (table : List ℕ) → length table ≡ 2 ^ k → encode k b table ≡ tabulate (2 ^ k) (λ q. word 0 k table (b * 2 ^ k + q))
 encode_word k b table h =

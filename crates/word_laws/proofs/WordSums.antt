@@ -4,10 +4,10 @@ use Rattle.std.proofs.lemmas.Nat.Bits.{bit_at_lowest, bit_at-suc}
 use Rattle.tower_laws.specs.Tower.{mul}
 use Rattle.tower_laws.proofs.Field.{identity, field_terms}
 use Rattle.cube_laws.specs.Sums.{product_to}
-use Rattle.cube_laws.specs.Extension.{bit, fold_low}
-use Rattle.cube_laws.proofs.Folding.{length-fold_low}
-use Rattle.cube_laws.proofs.Weights.{sum_to-same, product_to-same, dot_sum}
-use Rattle.word_laws.specs.CodeWord.{hat, hats, branch, subsets, word, word_sum, fold_pair}
+use Rattle.cube_laws.specs.Extension.{bit, extension, fold_low, fold_all}
+use Rattle.cube_laws.proofs.Folding.{weighted-fold_all}
+use Rattle.cube_laws.proofs.Weights.{sum_to-same, product_to-same, dot_sum, by_weights_is}
+use Rattle.word_laws.specs.CodeWord.{hat, hats, branch, subsets, word, word_by_subsets, fold_pair}
 use Rattle.word_laws.proofs.Words.{length-subsets, length-hats, fold_word}
 
 lowest : (w : ℕ) → bit w 0 ≡ w % 2
@@ -40,18 +40,21 @@ hats_at j (suc k) x w h =
     next : (i : ℕ) → cond (eqb (bit (w / 2) i) 1) (hat (suc j + i) x) 1 ≡ cond (eqb (bit w (suc i)) 1) (hat (j + suc i) x) 1
     next i = let e : suc j + i ≡ j + suc i = omega arith in (λ t. cond (eqb (sym (bit_at-suc w i) t) 1) (hat (e t) x) 1)
 
--- the word is the sum over the table's places of its value times the product over the place's set bits
-pub word_is_sum : (j k p : ℕ) (table : List ℕ) → length table ≡ 2 ^ k → word j k table p ≡ word_sum j k table p
-word_is_sum j k p table h =
+-- the quick form of a word is the word
+pub by_subsets_is : (j k p : ℕ) (table : List ℕ) → word_by_subsets j k table p ≡ word j k table p
+by_subsets_is j k p table =
     let ls = length-subsets (hats j k (p * 2 ^ j)) ∙ ap (λ n. 2 ^ n) (length-hats j k (p * 2 ^ j)) in
-    dot_sum (2 ^ k) table (subsets (hats j k (p * 2 ^ j))) h ls
+    dot_sum (2 ^ k) table (subsets (hats j k (p * 2 ^ j))) ls
     ∙ sum_to-same (2 ^ k) (λ w. mul (get_or table w 0) (get_or (subsets (hats j k (p * 2 ^ j))) w 0)) (λ w. mul (get_or table w 0) (product_to k (λ i. cond (eqb (bit w i) 1) (hat (j + i) (p * 2 ^ j)) 1)))
     (λ w l. ap (mul (get_or table w 0)) (hats_at j k (p * 2 ^ j) w l))
 
--- the fold law over the sums
-pub fold_word_sum : (j k p r : ℕ) (table : List ℕ) → length table ≡ 2 ^ suc k
-    → fold_pair r (hat j ((2 * p) * 2 ^ j)) (word_sum j (suc k) table (2 * p)) (word_sum j (suc k) table (2 * p + 1)) ≡ word_sum (suc j) k (fold_low r table) p
-fold_word_sum j k p r table h =
-    let q : 2 ^ suc k ≡ 2 * 2 ^ k = omega arith in
-    (λ i. fold_pair r (hat j ((2 * p) * 2 ^ j)) (sym (word_is_sum j (suc k) (2 * p) table h) i) (sym (word_is_sum j (suc k) (2 * p + 1) table h) i))
-    ∙ fold_word j k p r table h ∙ word_is_sum (suc j) k p (fold_low r table) (length-fold_low r (2 ^ k) table (h ∙ q))
+-- the fold of word j is word j + 1 of the table with its lowest variable set
+pub fold_of_word : (j k p r : ℕ) (table : List ℕ) → length table ≡ 2 ^ suc k
+    → fold_pair r (hat j ((2 * p) * 2 ^ j)) (word j (suc k) table (2 * p)) (word j (suc k) table (2 * p + 1)) ≡ word (suc j) k (fold_low r table) p
+fold_of_word j k p r table h =
+    (λ i. fold_pair r (hat j ((2 * p) * 2 ^ j)) (sym (by_subsets_is j (suc k) (2 * p) table) i) (sym (by_subsets_is j (suc k) (2 * p + 1) table) i))
+    ∙ fold_word j k p r table h ∙ by_subsets_is (suc j) k p (fold_low r table)
+
+-- after all folds each value is the extension
+pub last_word : (j p : ℕ) (rs table : List ℕ) → length table ≡ 2 ^ length rs → word j 0 (fold_all rs table) p ≡ extension table rs
+last_word j p rs table h = sym (by_subsets_is j 0 p (fold_all rs table)) ∙ weighted-fold_all rs table h ∙ by_weights_is table rs

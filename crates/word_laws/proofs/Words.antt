@@ -3,10 +3,9 @@ use Rattle.std.proofs.Common.{◌≡◌, ℕ, zero, suc, ◌+◌, ◌*◌, ◌^�
 use Rattle.std.proofs.lemmas.Nat.{pow_below}
 use Rattle.std.specs.Int.Bits.{xor_zero_r, xor_shifted}
 use Rattle.tower_laws.specs.Tower.{mul}
-use Rattle.cube_laws.specs.Extension.{dot, fold_low, fold_all, extension}
-use Rattle.cube_laws.proofs.Folding.{extension-fold_all}
+use Rattle.cube_laws.specs.Extension.{dot, fold_low}
 use Rattle.tower_laws.proofs.Field.{identity, from_one, field_terms}
-use Rattle.word_laws.specs.CodeWord.{hat, hats, branch, subsets, word, fold_pair}
+use Rattle.word_laws.specs.CodeWord.{hat, hats, branch, subsets, word_by_subsets, fold_pair}
 use Rattle.word_laws.proofs.Vanishing.{hat-add, hat_below, hat_one}
 
 pub length-branch : (x : ℕ) (ts : List ℕ) → length (branch x ts) ≡ 2 * length ts
@@ -59,9 +58,9 @@ odd_place j p =
     let l : 2 ^ j < 2 ^ suc j = pow_below j (suc j) (omega arith) in
     next_place j p ∙ sym (xor_shifted p (suc j) (2 ^ j) l)
 
--- the fold of word j is word j + 1 of the table with its lowest variable set
+-- in the quick form, the fold of word j is word j + 1 of the table with its lowest variable set
 pub fold_word : (j k p r : ℕ) (table : List ℕ) → length table ≡ 2 ^ suc k
-    → fold_pair r (hat j ((2 * p) * 2 ^ j)) (word j (suc k) table (2 * p)) (word j (suc k) table (2 * p + 1)) ≡ word (suc j) k (fold_low r table) p
+    → fold_pair r (hat j ((2 * p) * 2 ^ j)) (word_by_subsets j (suc k) table (2 * p)) (word_by_subsets j (suc k) table (2 * p + 1)) ≡ word_by_subsets (suc j) k (fold_low r table) p
 fold_word j k p r table h =
     let S = subsets (hats (suc j) k (p * 2 ^ suc j)) in
     let x = hat j ((2 * p) * 2 ^ j) in
@@ -73,10 +72,6 @@ fold_word j k p r table h =
     let e4 = hat_one j in
     let q : 2 ^ suc k ≡ 2 * 2 ^ k = omega arith in
     let ls = length-subsets (hats (suc j) k (p * 2 ^ suc j)) ∙ ap (λ n. 2 ^ n) (length-hats (suc j) k (p * 2 ^ suc j)) in
-    let f0 : word j (suc k) table (2 * p) ≡ dot table (branch (hat j ((2 * p) * 2 ^ j)) (subsets (hats (suc j) k (p * 2 ^ suc j)))) = cc in
-    let f1 : word j (suc k) table (2 * p + 1) ≡ dot table (branch (bit_xor (hat j ((2 * p) * 2 ^ j)) 1) (subsets (hats (suc j) k (p * 2 ^ suc j)))) = cc in
+    let f0 : word_by_subsets j (suc k) table (2 * p) ≡ dot table (branch (hat j ((2 * p) * 2 ^ j)) (subsets (hats (suc j) k (p * 2 ^ suc j)))) = cc in
+    let f1 : word_by_subsets j (suc k) table (2 * p + 1) ≡ dot table (branch (bit_xor (hat j ((2 * p) * 2 ^ j)) 1) (subsets (hats (suc j) k (p * 2 ^ suc j)))) = cc in
     (λ i. fold_pair r (hat j ((2 * p) * 2 ^ j)) (f0 i) (f1 i)) ∙ dot_fold r (hat j ((2 * p) * 2 ^ j)) table (subsets (hats (suc j) k (p * 2 ^ suc j))) (omega arith)
-
--- after all folds each value is the extension
-pub last_word : (j p : ℕ) (rs table : List ℕ) → length table ≡ 2 ^ length rs → word j 0 (fold_all rs table) p ≡ extension table rs
-last_word j p rs table h = extension-fold_all rs table h

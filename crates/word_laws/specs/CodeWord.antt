@@ -16,8 +16,8 @@ hat i x = mul (vanish i x) (inverse (vanish i (2 ^ i)))
 
 -- the value at position p of the word of a table of 2 ^ k values, after j folds: the sum over w of the table's value there
 -- times the product, over the set bits i of w, of hat (j + i) at the point of p
-abbrev pub word_sum : ℕ → ℕ → List ℕ → ℕ → ℕ
-word_sum j k table p = sum_to (2 ^ k) (λ w. mul (get_or table w 0) (product_to k (λ i. cond (bit w i == 1) (hat (j + i) (p * 2 ^ j)) 1)))
+abbrev pub word : ℕ → ℕ → List ℕ → ℕ → ℕ
+word j k table p = sum_to (2 ^ k) (λ w. mul (get_or table w 0) (product_to k (λ i. cond (bit w i == 1) (hat (j + i) (p * 2 ^ j)) 1)))
 
 -- the values at x of k hats, from hat j on
 abbrev pub hats : ℕ → ℕ → ℕ → List ℕ
@@ -34,9 +34,9 @@ abbrev pub subsets : List ℕ → List ℕ
 subsets [] = 1 ∷ []
 subsets (x ∷ xs) = branch x (subsets xs)
 
--- the value of the word, which is `word_sum` where the table has 2 ^ k values
-abbrev pub word : ℕ → ℕ → List ℕ → ℕ → ℕ
-word j k table p = dot table (subsets (hats j k (p * 2 ^ j)))
+-- a quick form of the word
+abbrev pub word_by_subsets : ℕ → ℕ → List ℕ → ℕ → ℕ
+word_by_subsets j k table p = dot table (subsets (hats j k (p * 2 ^ j)))
 
 -- the fold at r of the two values f and g of a pair of positions, x being the point of the first
 abbrev pub fold_pair : ℕ → ℕ → ℕ → ℕ → ℕ

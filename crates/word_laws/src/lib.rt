@@ -5,7 +5,7 @@
 
 #![tactic(auto)]
 
-ghost use Rattle.word_laws.specs.Laws.{AreVanishing, EncodeIsWord, FoldOfWord, LastWord, WordIsSum};
+ghost use Rattle.word_laws.specs.Laws.{AreVanishing, EncodeIsWord, FoldOfWord, LastWord, QuickWord};
 
 /// The polynomials that vanish below a power of 2.
 pub fn vanishing_polynomials()
@@ -14,9 +14,9 @@ pub fn vanishing_polynomials()
 
 /// Words, and what a fold makes of them.
 pub fn word_folds()
-    ensures sum { WordIsSum }
     ensures fold { FoldOfWord }
     ensures last { LastWord }
+    ensures quick { QuickWord }
 {}
 
 /// The transform by butterflies gives the word.
