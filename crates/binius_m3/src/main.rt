@@ -1,7 +1,10 @@
 //! The program: words in, one answer on standard output, and a status.
 #![tactic(auto)]
 
-use byte_ends::{OsShelf, OsSink};
+ghost use Rattle.std.specs.Prelude.{◌≡◌, ◌⊎◌};
+ghost use Rattle.byte_ends.specs.Counts.{Rose};
+
+use byte_ends::{OsShelf, OsSink, WriteFault, put_whole};
 use m3_tool::{Status, run};
 use std::process::ExitCode;
 use std::rt::Env;
@@ -24,12 +27,22 @@ fn words(rt: &(impl Env + AllocGlobal)) -> io::Result<Vec<String>> {
     Ok(words)
 }
 
+/// The end of a run whose words found no memory.
+fn no_memory<R: Print>(out: &mut OsSink<'_, R>) -> Status
+    ensures { (result ≡ Status.NoMemory) ⊎ ((result ≡ Status.WriteFault) × Rose out.old out.new) }
+{
+    match put_whole(out, b"no memory\n") {
+        Ok(()) => Status::NoMemory,
+        Err(WriteFault) => Status::WriteFault,
+    }
+}
+
 fn main(rt: HostRuntime) -> ExitCode {
     let mut shelf = OsShelf::new(&rt);
     let mut out = OsSink::new(&rt);
     let status = match words(&rt) {
         Ok(words) => run(rt.alloc(), words.as_slice(), &mut shelf, &mut out),
-        Err(_) => Status::NoMemory,
+        Err(_) => no_memory(&mut out),
     };
     ExitCode::from(status.code())
 }
