@@ -27,21 +27,21 @@ use Rattle.m3_tool.proofs.ByteDigits.{length-digits, no_digit, powers}
 use Rattle.m3_tool.proofs.ColumnValues.{the_column, value_at}
 use Rattle.m3_tool.proofs.Following.{bind_ok}
 
-abbrev Got : {X : Type 0} → Result X WitnessStop → X → Type 0
+abbrev pub Got : {X : Type 0} → Result X WitnessStop → X → Type 0
 Got r x = r ≡ Ok x
 
-same : {X : Type 0} (x y : X) → Got (Ok x) y → x ≡ y
+pub same : {X : Type 0} (x y : X) → Got (Ok x) y → x ≡ y
 same x y e = cc
 
 -- what holds of the value that was made holds of the value that was found
-along : {X : Type 0} (P : X → Type 0) (x y : X) → Got (Ok x) y → P x → P y
+pub along : {X : Type 0} (P : X → Type 0) (x y : X) → Got (Ok x) y → P x → P y
 along P x y e h = subst P (same x y e) h
 
-was_there : {X : Type 0} (place : WitnessPlace) (kind : WitnessKind) (o : Option X) (x : X) → or_refuse place kind o ≡ Ok x → o ≡ Some x
+pub was_there : {X : Type 0} (place : WitnessPlace) (kind : WitnessKind) (o : Option X) (x : X) → or_refuse place kind o ≡ Ok x → o ≡ Some x
 was_there place kind None x e = absurd cc
 was_there place kind (Some y) x e = ap Some (same y x e)
 
-passed : {X : Type 0} (test : Bool) (place : WitnessPlace) (kind : WitnessKind) (x y : X) → unless test place kind x ≡ Ok y → (test ≡ true) × (x ≡ y)
+pub passed : {X : Type 0} (test : Bool) (place : WitnessPlace) (kind : WitnessKind) (x y : X) → unless test place kind x ≡ Ok y → (test ≡ true) × (x ≡ y)
 passed true place kind x y e = (refl, same x y e)
 passed false place kind x y e = absurd cc
 
@@ -88,7 +88,7 @@ rows_kept tables whole rows e =
 
 -- ---- bytes
 
-below_along : (x y : List ℕ) (n : ℕ) → x ≡ y → number_of_bytes x < n → number_of_bytes y < n
+pub below_along : (x y : List ℕ) (n : ℕ) → x ≡ y → number_of_bytes x < n → number_of_bytes y < n
 below_along x y n e h = let P : List ℕ → Type 0 = λ z. number_of_bytes z < n in subst P e h
 
 column_kept : (t c rows : ℕ) (column : ColumnShape) (object : Members) (bytes : List ℕ) → column_bytes t c rows column object ≡ Ok bytes → number_of_bytes bytes < 2 ^ bits_of rows column
@@ -154,7 +154,7 @@ tables_kept t (first ∷ tables) (object ∷ objects) bytes len e i c table colu
 
 -- ---- the whole
 
-within : (tables : List TableShape) (rs rows : List ℕ) → within_size tables rs ≡ Ok rows → (size_log tables rs ≤ 24) × (rs ≡ rows)
+pub within : (tables : List TableShape) (rs rows : List ℕ) → within_size tables rs ≡ Ok rows → (size_log tables rs ≤ 24) × (rs ≡ rows)
 within tables rs rows e = small (ltb 24 (size_log tables rs)) refl e
   where
     small : (b : Bool) → ltb 24 (size_log tables rs) ≡ b → cond b (Err (TooLarge (size_log tables rs))) (Ok rs) ≡ Ok rows → (size_log tables rs ≤ 24) × (rs ≡ rows)

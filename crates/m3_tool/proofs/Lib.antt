@@ -11,6 +11,7 @@ pub mod Following
 pub mod Padding
 pub mod Members
 pub mod KeptWitness
+pub mod GivenWitness
 pub mod Once
 pub mod Runs
 pub mod Violated

@@ -8,6 +8,7 @@ pub mod Filling
 pub mod Satisfies
 pub mod Witness
 pub mod WitnessGives
+pub mod Given
 pub mod Stored
 pub mod Judging
 pub mod Status

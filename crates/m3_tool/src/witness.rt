@@ -12,6 +12,7 @@ ghost use Rattle.m3_tool.specs.declared.witness.WitnessStop.{WitnessStop};
 ghost use Rattle.m3_tool.specs.declared.witness.WitnessStop.TheVariants.{Fault, NoMemory};
 ghost use Rattle.m3_tool.specs.Digits.{number_of_bytes};
 ghost use Rattle.m3_tool.specs.Filling.{IsFilling, max_rows};
+ghost use Rattle.m3_tool.specs.Given.{IsReadWhereGiven};
 ghost use Rattle.m3_tool.specs.WitnessGives.{Gives};
 ghost use Rattle.m3_tool.specs.Shape.{ColumnsFit, TableFits, TablesFit, table_names, max_columns, max_tables};
 ghost use Rattle.m3_tool.specs.Witness.{IsOf, bits_of, column_bytes, columns_bytes, has_other, hex_bytes, json_of, object_of, objects_of, or_refuse, rows_of, rows_of_tables, table_bytes, tables_bytes, witness_of};
@@ -102,6 +103,12 @@ pub fn read_witness(alloc: Global, shape: Shape, file: &[u8]) -> Result<Store, W
     let (rows, bytes) = witness_of(alloc, &shape, file)?;
     Ok(Store::of(shape, rows, bytes))
 }
+
+/// What it means that a witness is read: the file has an object for each table, with its rows and
+/// the bytes of each column, and nothing else.
+pub fn read_where_given()
+    ensures { IsReadWhereGiven }
+{}
 
 type TableBytes = Items<Items<u8>>;
 
