@@ -15,7 +15,7 @@ pub bind_ok : {A B E : Type 0} (r : Result A E) (f : A → Result B E) (y : B) �
 bind_ok (Ok x) f y e = (x, refl, e)
 bind_ok (Err d) f y e = absurd cc
 
-pub bind_is : {A B : Type 0} (r : Result A WitnessStop) (x : A) (f : A → Result B WitnessStop) → r ≡ Ok x → (r >>= f) ≡ f x
+pub bind_is : {A B E : Type 0} (r : Result A E) (x : A) (f : A → Result B E) → r ≡ Ok x → (r >>= f) ≡ f x
 bind_is r x f e = rw e refl
 
 -- a stop in the first step is one of both

@@ -1,4 +1,5 @@
 pub mod ShapeSteps
+pub mod MeantShape
 pub mod Searching
 pub mod Products
 pub mod HexDigits

@@ -3,6 +3,7 @@ pub mod Size
 pub mod Value
 pub mod Shape
 pub mod ShapeGives
+pub mod ShapeMeaning
 pub mod Digits
 pub mod Filling
 pub mod Satisfies

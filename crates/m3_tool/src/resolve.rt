@@ -6,6 +6,7 @@ ghost use Rattle.std.specs.Str.{bytes_eq};
 ghost use Rattle.table_text.specs.Valid.{ItemLevelsFit};
 ghost use Rattle.m3_tool.specs.Shape.{TableFits, all_some, begun_table, max_columns, max_tables, number_of_name, resolved, shape_of, with_column, with_constraint, with_items};
 ghost use Rattle.m3_tool.specs.ShapeGives.{Gives};
+ghost use Rattle.m3_tool.specs.ShapeMeaning.{IsShapedWhereMeant};
 ghost use Rattle.m3_tool.specs.Value.{degree};
 
 use crate::shape::{
@@ -290,6 +291,12 @@ fn begun_table(
         constraints: Items::new(alloc),
     })
 }
+
+/// What it means that declarations have a shape: each table has the columns that its items declare,
+/// and each constraint the columns before it by their numbers, names differ, and no limit is exceeded.
+pub fn shaped_where_meant()
+    ensures { IsShapedWhereMeant }
+{}
 
 /// The shape of declarations, or their first fault.
 pub fn resolve(alloc: Global, tables: &Tables) -> Result<Shape, ShapeStop>
