@@ -15,4 +15,4 @@ pub mod KeptWitness
 pub mod GivenWitness
 pub mod Once
 pub mod Runs
-pub mod Violated
+pub mod Verdicts

@@ -1,6 +1,6 @@
 -- What is due to words, by the bytes of the files.
 -- Source: docs/FORMATS.md, "Commands", "What is printed" and "Limits".
-use Rattle.std.specs.Prelude.{◌≡◌, ℕ, ◌⊎◌, nat_lt, Bool, true, false, List, length, Option, Some, None, Ok, MatchResult}
+use Rattle.std.specs.Prelude.{◌≡◌, ℕ, ◌⊎◌, nat_lt, Bool, true, false, List, length, Option, Some, None, MatchResult}
 use Rattle.std.specs.Bool.{MatchBool}
 use Rattle.byte_ends.specs.Shelf.{ShelfState, bytes_of, ReadFailed}
 use Rattle.table_text.specs.declared.decl.Decl.{Decl}
@@ -13,9 +13,11 @@ use Rattle.m3_tool.specs.declared.witness.WitnessStop.TheVariants as stop
 use Rattle.m3_tool.specs.declared.status.Status.{Status}
 use Rattle.m3_tool.specs.declared.status.Status.TheVariants.{Yes, No, Words, Tables, Witness, ReadFault, WriteFault, TooLarge, NoMemory, TooLong}
 use Rattle.m3_tool.specs.Shape.{shape_of}
+use Rattle.m3_tool.specs.ShapeMeaning.{IsShape}
 use Rattle.m3_tool.specs.Filling.{Filling}
 use Rattle.m3_tool.specs.Satisfies.{Satisfies, IsFirstViolation}
 use Rattle.m3_tool.specs.Witness.{Witness as Given, witness_of, filling_of}
+use Rattle.m3_tool.specs.Given.{GivesWitness}
 use Rattle.m3_tool.specs.Command.{Command, check, help, version}
 use Rattle.m3_tool.specs.Lines.{satisfied_line, violation_line, text_fault_line, shape_fault_line, witness_fault_line, too_large_line, too_long_line, words_line, no_memory_line, help_text, version_line}
 
@@ -97,24 +99,24 @@ ReadsFailed (Some (check tables witness)) old new = EitherReadFailed old new tab
 ReadsFailed (Some help) old new = ⊥
 ReadsFailed (Some version) old new = ⊥
 
--- values that satisfy tables
+-- a text of tables, and a witness that gives values which satisfy them
 pub record IsSatisfied (text witness : List ℕ) : Type 0 where
   pub decls : List Decl
   pub tables : List TableShape
   pub given : Given
   pub text_is : IsTablesText text decls
-  pub shape_is : shape_of decls ≡ Ok tables
-  pub witness_is : witness_of tables witness ≡ Ok given
+  pub shape_is : IsShape decls tables
+  pub witness_is : GivesWitness tables witness given
   pub satisfies : Satisfies tables given.rows (filling_of tables given)
 
--- values that violate tables, and the line that says where first
+-- a text of tables, a witness that gives values which violate them, and the line that says where first
 pub record IsViolated (text witness line : List ℕ) : Type 0 where
   pub decls : List Decl
   pub tables : List TableShape
   pub given : Given
   pub text_is : IsTablesText text decls
-  pub shape_is : shape_of decls ≡ Ok tables
-  pub witness_is : witness_of tables witness ≡ Ok given
+  pub shape_is : IsShape decls tables
+  pub witness_is : GivesWitness tables witness given
   pub violation : Violation
   pub first : IsFirstViolation tables given.rows (filling_of tables given) violation
   pub line_is : line ≡ violation_line first.table first.constraint violation

@@ -2,8 +2,15 @@ use Rattle.std.proofs.Common.{◌≡◌, false, ap}
 use Rattle.m3_tool.specs.Run.{is_outside}
 use Rattle.m3_tool.specs.Answered.{answer_of, line_of}
 use Rattle.m3_tool.proofs.Runs.{may_put}
-use Rattle.m3_tool.proofs.Violated.{violated}
+use Rattle.m3_tool.proofs.Verdicts.{satisfied, violated}
 use Rattle.m3_tool.proofs.running.run.Goals as goal
+
+pub returns-in-Ok-clause-satisfied : goal.returns-in-Ok-clause-satisfied
+returns-in-Ok-clause-satisfied g c tables witness is told is_yes =
+    let inside : is_outside c.answer_to-answer.result.status ≡ false = ap is_outside is_yes in
+    let due = rw is at (c.answer_to-answer.ensures.due told inside) in
+    let s = satisfied _ _ _ due is_yes in
+    (s.0, rw s.1 at (rw c.as_bytes.ensures at c.in-Ok.ensures.done))
 
 pub returns-in-Ok-clause-violated : goal.returns-in-Ok-clause-violated
 returns-in-Ok-clause-violated g c tables witness is told is_no =
