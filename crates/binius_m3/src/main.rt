@@ -3,8 +3,10 @@
 
 ghost use Rattle.std.specs.Prelude.{◌≡◌, ◌⊎◌};
 ghost use Rattle.byte_ends.specs.Counts.{Rose};
+ghost use Rattle.byte_ends.specs.Sink.{Puts, PutsPrefix};
+ghost use Rattle.m3_tool.specs.Lines.{no_memory_line};
 
-use byte_ends::{OsShelf, OsSink, WriteFault, put_whole};
+use byte_ends::{OsShelf, OsSink, Sink, WriteFault, put_whole};
 use m3_tool::{Status, run};
 use std::process::ExitCode;
 use std::rt::Env;
@@ -27,9 +29,12 @@ fn words(rt: &(impl Env + AllocGlobal)) -> io::Result<Vec<String>> {
     Ok(words)
 }
 
-/// The end of a run whose words found no memory.
-fn no_memory<R: Print>(out: &mut OsSink<'_, R>) -> Status
-    ensures { (result ≡ Status.NoMemory) ⊎ ((result ≡ Status.WriteFault) × Rose out.old out.new) }
+/// Ends a run whose words found no memory: puts its line.
+fn no_memory<W: Sink>(out: &mut W) -> Status
+    ensures only { (result ≡ Status.NoMemory) ⊎ (result ≡ Status.WriteFault) }
+    ensures put { result ≡ Status.NoMemory → Puts (W.state out.old) (W.state out.new) no_memory_line }
+    ensures fault { result ≡ Status.WriteFault → Rose (W.state out.old).faults (W.state out.new).faults × PutsPrefix (W.state out.old) (W.state out.new) no_memory_line }
+    ensures quiet { result ≡ Status.NoMemory → (W.state out.new).faults ≡ (W.state out.old).faults }
 {
     match put_whole(out, b"no memory\n") {
         Ok(()) => Status::NoMemory,
