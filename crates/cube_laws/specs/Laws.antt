@@ -5,13 +5,19 @@ use Rattle.counting_laws.specs.Counting.{AtMost}
 use Rattle.poly_laws.specs.Polynomial.{Polynomial}
 use Rattle.poly_laws.specs.Interpolation.{at}
 use Rattle.cube_laws.specs.Sums.{sum_to}
-use Rattle.cube_laws.specs.Extension.{extension, extension_by_weights, fold_low, bits_of}
+use Rattle.cube_laws.specs.Extension.{eq, weights, extension, extension_by_weights, fold_low, bits_of}
 use Rattle.cube_laws.specs.Form.{Form, value, degree}
 use Rattle.cube_laws.specs.SumClaim.{Sum, cube_sum, sum_at, round_at, IsRound, row, AllLong}
 
 -- the quick form of an extension is the extension
 abbrev pub QuickExtension : Type 0
 QuickExtension = (table z : List ℕ) → extension_by_weights table z ≡ extension table z
+
+-- values worked out by hand, at the point 4
+pub record AreWorked : Type 0 where
+  pub weights_are : weights (4 ∷ []) ≡ 5 ∷ 4 ∷ []
+  pub eq_is : eq (4 ∷ []) 0 ≡ 5
+  pub extension_is : extension (1 ∷ 2 ∷ []) (4 ∷ []) ≡ 13
 
 -- at the corner of a position the extension is the table's value there
 abbrev pub ExtensionAtCorners : Type 0

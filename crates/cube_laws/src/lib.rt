@@ -5,13 +5,18 @@
 
 #![tactic(auto)]
 
-ghost use Rattle.cube_laws.specs.Laws.{AreRounds, CubeSumIsSum, ExtensionAtCorners, ExtensionOfFold, FoldsDiffer, QuickExtension};
+ghost use Rattle.cube_laws.specs.Laws.{AreRounds, AreWorked, CubeSumIsSum, ExtensionAtCorners, ExtensionOfFold, FoldsDiffer, QuickExtension};
 
 /// What the extension of a table is at corners and under folds, and its quick form.
 pub fn extensions()
     ensures corners { ExtensionAtCorners }
     ensures fold { ExtensionOfFold }
     ensures quick { QuickExtension }
+{}
+
+/// Weights and an extension of two values, worked out by hand.
+pub fn worked_values()
+    ensures { AreWorked }
 {}
 
 /// Lists that differ still differ after all but one value of their lowest variable.

@@ -1,6 +1,6 @@
 -- The laws of polynomials, as statements.
 -- Source: docs/LAWS.md, "poly_laws: polynomials in one variable".
-use Rattle.std.specs.Prelude.{◌≡◌, ◌<◌, ◌+◌, ◌-◌, ℕ, List, length, slice_index, bit_xor}
+use Rattle.std.specs.Prelude.{◌≡◌, ◌<◌, ◌+◌, ◌-◌, ℕ, List, [], ◌∷◌, length, slice_index, bit_xor}
 use Rattle.std.specs.List.{AllByRecursion}
 use Rattle.tower_laws.specs.Tower.{mul}
 use Rattle.tower_laws.specs.Lists.{sum_all}
@@ -11,6 +11,11 @@ use Rattle.poly_laws.specs.Interpolation.{at}
 -- the value of a polynomial is the sum of its coefficients c_i times x ^ i
 abbrev pub ValueIsSum : Type 0
 ValueIsSum = (cs : List ℕ) (x : ℕ) → horner cs x ≡ sum_all (terms 0 cs x)
+
+-- values worked out by hand: 1 + x² at 4, whose square is 9, from its coefficients and from its values at 0, 1 and 2
+pub record AreWorked : Type 0 where
+  pub from_coefficients : horner (1 ∷ 0 ∷ 1 ∷ []) 4 ≡ 8
+  pub from_values : at (1 ∷ 0 ∷ 2 ∷ []) 4 ≡ 8
 
 -- a polynomial has fewer roots than coefficients, unless all its coefficients are 0
 abbrev pub RootsAreFew : Type 0

@@ -5,11 +5,16 @@
 
 #![tactic(auto)]
 
-ghost use Rattle.poly_laws.specs.Laws.{HaveDegrees, IsInterpolation, RootsAreFew, ValueIsSum};
+ghost use Rattle.poly_laws.specs.Laws.{AreWorked, HaveDegrees, IsInterpolation, RootsAreFew, ValueIsSum};
 
 /// The value of a polynomial is the sum of its coefficients times powers.
 pub fn values_are_sums()
     ensures { ValueIsSum }
+{}
+
+/// Two values of one polynomial, worked out by hand.
+pub fn worked_values()
+    ensures { AreWorked }
 {}
 
 /// A polynomial that is not 0 has fewer roots than coefficients.
