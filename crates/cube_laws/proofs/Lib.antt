@@ -5,3 +5,9 @@ pub mod Rounds
 pub mod Positions
 pub mod Draws
 pub mod Vectors
+pub mod Tabulate
+pub mod Dots
+pub mod Linear
+pub mod Kron
+pub mod EqPoints
+pub mod Coordinates

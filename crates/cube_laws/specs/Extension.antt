@@ -1,6 +1,6 @@
 -- Multilinear extensions of tables of values, the lowest variable first.
 -- Source: docs/LAWS.md, "cube_laws: tables over cubes".
-use Rattle.std.specs.Prelude.{ℕ, ◌/◌, ◌%◌, ◌^◌, List, [], ◌∷◌, length, get_or, bit_xor}
+use Rattle.std.specs.Prelude.{ℕ, ◌/◌, ◌%◌, ◌^◌, List, [], ◌∷◌, ◌++◌, map, length, get_or, bit_xor}
 use Rattle.tower_laws.specs.Tower.{mul}
 use Rattle.tower_laws.specs.Digits.{digits}
 use Rattle.cube_laws.specs.Sums.{sum_to, product_to}
@@ -18,6 +18,12 @@ bit p k = p / 2 ^ k % 2
 -- of a point z and the corner whose coordinates are the bits of p: the product over k of z_k · p_k + (1 + z_k) · (1 + p_k)
 abbrev pub eq : List ℕ → ℕ → ℕ
 eq z p = product_to (length z) (λ k. bit_xor (mul (get_or z k 0) (bit p k)) (mul (bit_xor 1 (get_or z k 0)) (bit_xor 1 (bit p k))))
+
+-- eq of two points: the product over their coordinates x and y of x · y + (1 + x) · (1 + y)
+abbrev pub eq_points : List ℕ → List ℕ → ℕ
+eq_points [] ys = 1
+eq_points (x ∷ xs) [] = 1
+eq_points (x ∷ xs) (y ∷ ys) = mul (bit_xor (mul x y) (mul (bit_xor 1 x) (bit_xor 1 y))) (eq_points xs ys)
 
 -- the extension of a table at a point z: the sum over the positions p of the cube of the table's value at p times eq of z and p
 abbrev pub extension : List ℕ → List ℕ → ℕ
@@ -51,3 +57,8 @@ fold_all (r ∷ rs) table = fold_all rs (fold_low r table)
 -- the n low bits of k, the lowest first
 abbrev pub bits_of : ℕ → ℕ → List ℕ
 bits_of n k = digits 2 n k
+
+-- the product of two tables in disjoint variables, those of ts the lower ones: for each number of es the numbers of ts times it
+abbrev pub kron : List ℕ → List ℕ → List ℕ
+kron ts [] = []
+kron ts (e ∷ es) = map (λ t. mul t e) ts ++ kron ts es

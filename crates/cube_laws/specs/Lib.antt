@@ -3,3 +3,4 @@ pub mod Extension
 pub mod Form
 pub mod SumClaim
 pub mod Laws
+pub mod TableLaws

@@ -5,3 +5,4 @@ pub mod Rules
 pub mod Roots
 pub mod Inverses
 pub mod Halves
+pub mod Lists

@@ -4,3 +4,4 @@ pub mod Inverse
 pub mod FieldLaws
 pub mod Lists
 pub mod Digits
+pub mod ListLaws

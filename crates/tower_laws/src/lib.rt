@@ -6,6 +6,7 @@
 #![tactic(auto)]
 
 ghost use Rattle.tower_laws.specs.FieldLaws.{AreFields, HaveNoRoots, IsField};
+ghost use Rattle.tower_laws.specs.ListLaws.{AreSumsAndProducts, StayInLevel};
 
 /// Sum and product of numbers are those of a field of characteristic 2.
 pub fn numbers_are_a_field()
@@ -20,4 +21,10 @@ pub fn levels_are_fields()
 /// The two quadratic equations over the last generator of a level have no root there.
 pub fn generators_have_no_roots()
     ensures { HaveNoRoots }
+{}
+
+/// Sums and products of lists of numbers, joined or place by place.
+pub fn lists_add_and_multiply()
+    ensures values { AreSumsAndProducts }
+    ensures levels { StayInLevel }
 {}
