@@ -3,3 +3,5 @@ pub mod Powers
 pub mod Narrow
 pub mod LevelsNest
 pub mod InverseTable
+pub mod BytesAgain
+pub mod NumbersFit

@@ -3,6 +3,7 @@
 #![tactic(auto)]
 
 mod byte;
+mod bytes_again;
 mod element;
 mod embedding;
 mod halves;
@@ -17,6 +18,7 @@ mod level6;
 mod level7;
 mod values;
 
+pub use bytes_again::{bytes_are_spelled_again, numbers_are_read_again};
 pub use element::Tower;
 pub use embedding::{lift, lower};
 pub use level0::B1;
@@ -27,7 +29,7 @@ pub use level4::B16;
 pub use level5::B32;
 pub use level6::B64;
 pub use level7::B128;
-pub use values::{NoMemory, Values};
+pub use values::{NoMemory, Values, numbers_fit};
 
 #[cfg(test)]
 mod tests;

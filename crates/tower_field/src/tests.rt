@@ -1,6 +1,6 @@
 //! Values from outside, and each call once at every type.
 
-use crate::{B1, B2, B4, B8, B16, B32, B64, B128, Tower, Values, lift, lower};
+use crate::{B1, B2, B4, B8, B16, B32, B64, B128, Tower, Values, lift, lower, numbers_fit};
 use std::process::Abort;
 use std::test::Fail;
 
@@ -129,6 +129,11 @@ fn bytes_and_lists(rt: HostRuntime) -> Result<(), Fail> {
     assert_eq!(rt; values.push(element), Ok(()));
     assert_eq!(rt; values.push(B128::ONE), Ok(()));
     assert_eq!(rt; values.as_slice(), [element, B128::ONE].as_slice());
+    assert_eq!(rt;
+        format!(in rt.alloc(); "{values:?}")?.as_str(),
+        "Values { items: [B128 { bits: 170141183460469231731687303715884105730 }, B128 { bits: 1 }] }"
+    );
+    numbers_fit(values.as_slice());
     let items = values.into_vec();
     assert_eq!(rt; Values::from_vec(items).as_slice().len(), 2);
     Ok(())

@@ -1,7 +1,9 @@
 //! Lists of elements of 128 bits.
 
 ghost use Rattle.std.specs.Prelude.{◌≡◌, ◌++◌, ◌∷◌, [], List, ℕ, OnErr, OnOk};
+ghost use Rattle.tower_laws.specs.Lists.{AllFit};
 
+use crate::element::Tower;
 use crate::level7::B128;
 use std::alloc::Global;
 use std::marker::Model;
@@ -11,7 +13,7 @@ use std::marker::Model;
 pub struct NoMemory;
 
 /// A list of elements. A contract sees the list of their numbers.
-#[derive(Drop)]
+#[derive(Drop, Debug)]
 pub struct Values {
     items: Vec<B128>,
 }
@@ -62,5 +64,14 @@ impl Values {
         ensures { result.now ≡ self.now }
     {
         self.items.as_slice()
+    }
+}
+
+/// The numbers of a list of elements are below 2^128.
+pub fn numbers_fit(values: &[B128])
+    ensures { AllFit 7 values.now }
+{
+    for value in values {
+        let _number = value.number();
     }
 }
