@@ -11,3 +11,6 @@ pub mod Linear
 pub mod Kron
 pub mod EqPoints
 pub mod Coordinates
+pub mod Parts
+pub mod Batching
+pub mod Zeros

@@ -1,15 +1,16 @@
 -- Counts of vectors of draws.
-use Rattle.std.proofs.Common.{◌≡◌, ℕ, zero, suc, ◌+◌, ◌-◌, ◌*◌, ◌^◌, ◌<◌, ◌≤◌, List, [], ◌∷◌, length, Bool, true, false, not, eqb, ◌⊎◌, inl, inr, refl, sym, ◌∙◌, ap, subst, arith}
+use Rattle.std.proofs.Common.{◌≡◌, ℕ, zero, suc, ◌+◌, ◌-◌, ◌*◌, ◌^◌, ◌<◌, ◌≤◌, List, [], ◌∷◌, ◌++◌, length, Bool, true, false, not, eqb, ◌⊎◌, inl, inr, refl, sym, ◌∙◌, ap, subst, arith}
 use Rattle.std.proofs.lemmas.Bool.{eqb-true, eq-eqb, eqb-false, not-true, cases_eq}
 use Rattle.std.proofs.Math.Nat.{pow-zero, pow-suc, mul_comm, mul_assoc, suc-mul}
 use Rattle.cube_laws.specs.Extension.{fold_low, fold_all}
-use Rattle.cube_laws.proofs.Folding.{length-fold_low}
+use Rattle.std.proofs.lemmas.Nat.{pow-add}
+use Rattle.cube_laws.proofs.Coordinates.{fold_all-last, length-fold_all}
 use Rattle.std.specs.List.{AllByRecursion}
 use Rattle.counting_laws.specs.Counting.{Distinct, AtMost}
 use Rattle.counting_laws.specs.Multiset.{same_tuple}
 use Rattle.counting_laws.proofs.Bounds.{AllByRecursion-weaker, at_most_split, at_most_weaker, at_most_none}
 use Rattle.counting_laws.proofs.Removal.{tuples}
-use Rattle.cube_laws.proofs.Draws.{same_pairs}
+use Rattle.cube_laws.proofs.Draws.{coordinate}
 
 -- a property of a head and a tail
 abbrev pub Split : (ℕ → List ℕ → Type 0) → List ℕ → Type 0
@@ -113,46 +114,45 @@ at_most_when : {X : Type 0} (R : Type 0) (P : X → Type 0) (k : ℕ) → ((x : 
 at_most_when R P k f g [] d h = omega arith
 at_most_when R P k f g (x ∷ xs) d h = g (f x h.0) (x ∷ xs) d h
 
--- ---- lists that differ, and vectors of draws that make them equal
-abbrev Escapes : ℕ → ℕ → List ℕ → List ℕ → List ℕ → Type 0
-Escapes q k xs ys v = Vector q k v × (fold_all v xs ≡ fold_all v ys)
+-- ---- chains of draws, each of which at most one number passes
+abbrev Reaches : ℕ → ℕ → (List ℕ → Bool) → List ℕ → Type 0
+Reaches q k t v = Vector q k v × (t v ≡ true)
 
-abbrev head_bad : List ℕ → List ℕ → List ℕ → Bool
-head_bad xs ys [] = true
-head_bad xs ys (c ∷ w) = same_tuple (fold_low c xs) (fold_low c ys)
+abbrev head_bad : (List ℕ → Bool) → List ℕ → Bool
+head_bad t [] = true
+head_bad t (c ∷ w) = t (c ∷ [])
 
-one_bad : (q k c : ℕ) (xs ys v : List ℕ) → length xs ≡ length ys → (xs ≡ ys → ⊥) → same_tuple (fold_low c xs) (fold_low c ys) ≡ true
-    → Escapes q (suc k) xs ys v × (head_bad xs ys v ≡ true) → Split (λ e w. Vector q k w) v × (headed c v ≡ true)
-one_bad q k c xs ys [] l ne b h = absurd h.0.0
-one_bad q k c xs ys (e ∷ w) l ne b h = (h.0.0.1, go (cases_eq e c))
+-- two numbers that pass are one
+one_passes : (t : List ℕ → Bool) (e c : ℕ) → AtMost 1 (λ r. t (r ∷ []) ≡ true) → t (e ∷ []) ≡ true → t (c ∷ []) ≡ true → e ≡ c
+one_passes t e c h p q = go (cases_eq e c)
   where
-    go : (e ≡ c) ⊎ (e ≡ c → ⊥) → eqb e c ≡ true
-    go (inl p) = eq-eqb e c p
-    go (inr p) = absurd (ne (same_pairs e c xs ys p l (tuples.same (fold_low e xs) (fold_low e ys) h.1) (tuples.same (fold_low c xs) (fold_low c ys) b)))
+    go : (e ≡ c) ⊎ (e ≡ c → ⊥) → e ≡ c
+    go (inl r) = r
+    go (inr ne) = let l = h (e ∷ c ∷ []) (((λ (r : c ≡ e). ne (sym r)), tt), (tt, tt)) (p, (q, tt)) in absurd (omega arith)
 
-bad_head : (q k : ℕ) (xs ys : List ℕ) → length xs ≡ length ys → (xs ≡ ys → ⊥) → AtMost (q ^ k) (λ v. Escapes q (suc k) xs ys v × (head_bad xs ys v ≡ true))
-bad_head q k xs ys l ne =
-    at_most_when ((c : ℕ) × (same_tuple (fold_low c xs) (fold_low c ys) ≡ true)) (λ v. Escapes q (suc k) xs ys v × (head_bad xs ys v ≡ true)) (q ^ k) some
-    (λ r. at_most_weaker (λ v. Escapes q (suc k) xs ys v × (head_bad xs ys v ≡ true)) (λ v. Split (λ e w. Vector q k w) v × (headed r.0 v ≡ true)) (q ^ k) (q ^ k)
-    (λ v h. one_bad q k r.0 xs ys v l ne r.1 h) (omega arith) (one_head (λ e w. Vector q k w) r.0 (q ^ k) (vectors q k)))
+one_bad : (q k c : ℕ) (t : List ℕ → Bool) (v : List ℕ) → AtMost 1 (λ r. t (r ∷ []) ≡ true) → t (c ∷ []) ≡ true → Reaches q (suc k) t v × (head_bad t v ≡ true) → Split (λ e w. Vector q k w) v × (headed c v ≡ true)
+one_bad q k c t [] m b h = absurd h.0.0
+one_bad q k c t (e ∷ w) m b h = (h.0.0.1, eq-eqb e c (one_passes t e c m h.1 b))
+
+bad_head : (q k : ℕ) (t : List ℕ → Bool) → AtMost 1 (λ r. t (r ∷ []) ≡ true) → AtMost (q ^ k) (λ v. Reaches q (suc k) t v × (head_bad t v ≡ true))
+bad_head q k t m =
+    at_most_when ((c : ℕ) × (t (c ∷ []) ≡ true)) (λ v. Reaches q (suc k) t v × (head_bad t v ≡ true)) (q ^ k) some
+    (λ r. at_most_weaker (λ v. Reaches q (suc k) t v × (head_bad t v ≡ true)) (λ v. Split (λ e w. Vector q k w) v × (headed r.0 v ≡ true)) (q ^ k) (q ^ k)
+    (λ v h. one_bad q k r.0 t v m r.1 h) (omega arith) (one_head (λ e w. Vector q k w) r.0 (q ^ k) (vectors q k)))
   where
-    some : (v : List ℕ) → Escapes q (suc k) xs ys v × (head_bad xs ys v ≡ true) → (c : ℕ) × (same_tuple (fold_low c xs) (fold_low c ys) ≡ true)
+    some : (v : List ℕ) → Reaches q (suc k) t v × (head_bad t v ≡ true) → (c : ℕ) × (t (c ∷ []) ≡ true)
     some [] h = absurd h.0.0
     some (c ∷ w) h = (c, h.1)
 
-good_head : (q k c : ℕ) (xs ys : List ℕ) → ((fold_low c xs ≡ fold_low c ys → ⊥) → AtMost (k * q ^ (k - 1)) (Escapes q k (fold_low c xs) (fold_low c ys)))
-    → AtMost (k * q ^ (k - 1)) (λ w. (fold_low c xs ≡ fold_low c ys → ⊥) × Escapes q k (fold_low c xs) (fold_low c ys) w)
-good_head q k c xs ys h =
-    at_most_when (fold_low c xs ≡ fold_low c ys → ⊥) (λ w. (fold_low c xs ≡ fold_low c ys → ⊥) × Escapes q k (fold_low c xs) (fold_low c ys) w) (k * q ^ (k - 1)) (λ w r. r.0)
-    (λ ne. at_most_weaker (λ w. (fold_low c xs ≡ fold_low c ys → ⊥) × Escapes q k (fold_low c xs) (fold_low c ys) w) (Escapes q k (fold_low c xs) (fold_low c ys)) (k * q ^ (k - 1)) (k * q ^ (k - 1)) (λ w r. r.1) (omega arith) (h ne))
+good_head : (q k c : ℕ) (t : List ℕ → Bool) → (t (c ∷ []) ≡ false → AtMost (k * q ^ (k - 1)) (Reaches q k (λ w. t (c ∷ w))))
+    → AtMost (k * q ^ (k - 1)) (λ w. (t (c ∷ []) ≡ false) × Reaches q k (λ w. t (c ∷ w)) w)
+good_head q k c t h =
+    at_most_when (t (c ∷ []) ≡ false) (λ w. (t (c ∷ []) ≡ false) × Reaches q k (λ w. t (c ∷ w)) w) (k * q ^ (k - 1)) (λ w r. r.0)
+    (λ e. at_most_weaker (λ w. (t (c ∷ []) ≡ false) × Reaches q k (λ w. t (c ∷ w)) w) (Reaches q k (λ w. t (c ∷ w))) (k * q ^ (k - 1)) (k * q ^ (k - 1)) (λ w r. r.1) (omega arith) (h e))
 
-split_good : (q k : ℕ) (xs ys v : List ℕ) → Escapes q (suc k) xs ys v × (not (head_bad xs ys v) ≡ true)
-    → Split (λ c w. (c < q) × ((fold_low c xs ≡ fold_low c ys → ⊥) × Escapes q k (fold_low c xs) (fold_low c ys) w)) v
-split_good q k xs ys [] h = h.0.0
-split_good q k xs ys (c ∷ w) h = (h.0.0.0, (λ (e : fold_low c xs ≡ fold_low c ys). apart e, (h.0.0.1, h.0.1)))
-  where
-    apart : fold_low c xs ≡ fold_low c ys → ⊥
-    apart e = let t = sym (ap (same_tuple (fold_low c xs)) e) ∙ tuples.at (fold_low c xs) in let n = not-true (same_tuple (fold_low c xs) (fold_low c ys)) h.1 in cc
+split_good : (q k : ℕ) (t : List ℕ → Bool) (v : List ℕ) → Reaches q (suc k) t v × (not (head_bad t v) ≡ true) → Split (λ c w. (c < q) × ((t (c ∷ []) ≡ false) × Reaches q k (λ w. t (c ∷ w)) w)) v
+split_good q k t [] h = h.0.0
+split_good q k t (c ∷ w) h = (h.0.0.0, (not-true (t (c ∷ [])) h.1, (h.0.0.1, h.0.1)))
 
 next_power : (q k : ℕ) → q ^ suc k ≡ q * q ^ k
 next_power q k = pow-suc q k ∙ mul_comm (q ^ k) q
@@ -166,22 +166,67 @@ sum_bound q (suc k) =
     go : (m n : ℕ) → m ≡ q * n → m + q * (suc k * n) ≤ suc (suc k) * m
     go m n e = let r : q * (suc k * n) ≡ suc k * (q * n) = sym (mul_assoc q (suc k) n) ∙ ap (λ w. w * n) (mul_comm q (suc k)) ∙ mul_assoc (suc k) q n in let t : q * (suc k * n) ≡ suc k * m = r ∙ ap (λ w. suc k * w) (sym e) in let u : suc (suc k) * m ≡ suc k * m + m = suc-mul (suc k) m in omega arith
 
+-- of k draws, of which at most one number passes each where none before it did, at most k q ^ (k - 1) vectors of numbers below q pass
+pub chain_bound : (q k : ℕ) (t : List ℕ → Bool) → t [] ≡ false → ((v : List ℕ) → length v < k → t v ≡ false → AtMost 1 (λ r. t (v ++ r ∷ []) ≡ true)) → AtMost (k * q ^ (k - 1)) (λ v. Vector q k v × (t v ≡ true))
+chain_bound q zero t f step = at_most_none (Reaches q zero t) (0 * q ^ (0 - 1)) none
+  where
+    none : (v : List ℕ) → Reaches q zero t v → ⊥
+    none [] h = let e = sym f ∙ h.1 in absurd (cc)
+    none (c ∷ w) h = h.0
+chain_bound q (suc k) t f step =
+    let e : k ≡ suc k - 1 = omega arith in
+    subst (λ n. AtMost (suc k * q ^ n) (Reaches q (suc k) t)) e
+    (at_most_weaker (Reaches q (suc k) t) (Reaches q (suc k) t) (q ^ k + q * (k * q ^ (k - 1))) (suc k * q ^ k) (λ v r. r) (sum_bound q k)
+    (at_most_split (head_bad t) (Reaches q (suc k) t) (q ^ k) (q * (k * q ^ (k - 1)))
+    (bad_head q k t (step [] (omega arith) f))
+    (at_most_weaker (λ v. Reaches q (suc k) t v × (not (head_bad t v) ≡ true)) (Split (λ c w. (c < q) × ((t (c ∷ []) ≡ false) × Reaches q k (λ w. t (c ∷ w)) w)))
+    (q * (k * q ^ (k - 1))) (q * (k * q ^ (k - 1))) (λ v r. split_good q k t v r) (omega arith)
+    (heads q (k * q ^ (k - 1)) (λ c w. (t (c ∷ []) ≡ false) × Reaches q k (λ w. t (c ∷ w)) w)
+    (λ c. good_head q k c t (λ g. chain_bound q k (λ w. t (c ∷ w)) g (λ v l h. step (c ∷ v) (omega arith) h)))))))
+
+-- ---- lists that differ, and vectors of draws that make them equal
+pub length-vector : (q k : ℕ) (v : List ℕ) → Vector q k v → length v ≡ k
+length-vector q zero [] h = refl
+length-vector q zero (c ∷ v) h = absurd h
+length-vector q (suc k) [] h = absurd h
+length-vector q (suc k) (c ∷ v) h = ap suc (length-vector q k v h.1)
+
+differ : (xs ys : List ℕ) → (xs ≡ ys → ⊥) → same_tuple xs ys ≡ false
+differ xs ys ne = go (same_tuple xs ys) refl
+  where
+    go : (b : Bool) → same_tuple xs ys ≡ b → b ≡ false
+    go true e = absurd (ne (tuples.same xs ys e))
+    go false e = refl
+
+-- after any draws lists that differ are made equal by at most one more
+one_more : (q k : ℕ) (xs ys v : List ℕ) → length xs ≡ 2 ^ k → length ys ≡ 2 ^ k → length v < k → same_tuple (fold_all v xs) (fold_all v ys) ≡ false
+    → AtMost 1 (λ r. same_tuple (fold_all (v ++ r ∷ []) xs) (fold_all (v ++ r ∷ []) ys) ≡ true)
+one_more q k xs ys v l m h f =
+    let p : 2 ^ k ≡ 2 ^ (k - length v) * 2 ^ length v = let e : k ≡ (k - length v) + length v = omega arith in ap (λ n. 2 ^ n) e ∙ pow-add 2 (k - length v) (length v) in
+    at_most_weaker (λ r. same_tuple (fold_all (v ++ r ∷ []) xs) (fold_all (v ++ r ∷ []) ys) ≡ true) (λ r. fold_low r (fold_all v xs) ≡ fold_low r (fold_all v ys)) 1 1
+    (λ r e. sym (fold_all-last v xs r) ∙ tuples.same (fold_all (v ++ r ∷ []) xs) (fold_all (v ++ r ∷ []) ys) e ∙ fold_all-last v ys r) (omega arith)
+    (coordinate (fold_all v xs) (fold_all v ys) (length-fold_all (2 ^ (k - length v)) v xs (l ∙ p) ∙ sym (length-fold_all (2 ^ (k - length v)) v ys (m ∙ p)))
+    (λ e. let t = sym (ap (same_tuple (fold_all v xs)) e) ∙ tuples.at (fold_all v xs) in absurd (false_true (sym f ∙ t))))
+  where
+    false_true : false ≡ true → ⊥
+    false_true e = cc
+
 -- of two lists of 2 ^ k numbers that differ, at most k q ^ (k - 1) vectors of k numbers below q make them equal
 pub vector_bound : (q k : ℕ) (xs ys : List ℕ) → length xs ≡ 2 ^ k → length ys ≡ 2 ^ k → (xs ≡ ys → ⊥)
     → AtMost (k * q ^ (k - 1)) (λ v. Vector q k v × (fold_all v xs ≡ fold_all v ys))
-vector_bound q zero xs ys l m ne = at_most_none (Escapes q zero xs ys) (0 * q ^ (0 - 1)) none
-  where
-    none : (v : List ℕ) → Escapes q zero xs ys v → ⊥
-    none [] h = ne h.1
-    none (c ∷ w) h = h.0
-vector_bound q (suc k) xs ys l m ne =
-    let p : 2 ^ suc k ≡ 2 * 2 ^ k = omega arith in
-    let e : k ≡ suc k - 1 = omega arith in
-    subst (λ n. AtMost (suc k * q ^ n) (Escapes q (suc k) xs ys)) e
-    (at_most_weaker (Escapes q (suc k) xs ys) (Escapes q (suc k) xs ys) (q ^ k + q * (k * q ^ (k - 1))) (suc k * q ^ k) (λ v r. r) (sum_bound q k)
-    (at_most_split (head_bad xs ys) (Escapes q (suc k) xs ys) (q ^ k) (q * (k * q ^ (k - 1)))
-    (bad_head q k xs ys (l ∙ sym m) ne)
-    (at_most_weaker (λ v. Escapes q (suc k) xs ys v × (not (head_bad xs ys v) ≡ true)) (Split (λ c w. (c < q) × ((fold_low c xs ≡ fold_low c ys → ⊥) × Escapes q k (fold_low c xs) (fold_low c ys) w)))
-    (q * (k * q ^ (k - 1))) (q * (k * q ^ (k - 1))) (λ v r. split_good q k xs ys v r) (omega arith)
-    (heads q (k * q ^ (k - 1)) (λ c w. (fold_low c xs ≡ fold_low c ys → ⊥) × Escapes q k (fold_low c xs) (fold_low c ys) w)
-    (λ c. good_head q k c xs ys (vector_bound q k (fold_low c xs) (fold_low c ys) (length-fold_low c (2 ^ k) xs (l ∙ p)) (length-fold_low c (2 ^ k) ys (m ∙ p))))))))
+vector_bound q k xs ys l m ne =
+    at_most_weaker (λ v. Vector q k v × (fold_all v xs ≡ fold_all v ys)) (Reaches q k (λ v. same_tuple (fold_all v xs) (fold_all v ys))) (k * q ^ (k - 1)) (k * q ^ (k - 1))
+    (λ v h. (h.0, sym (ap (same_tuple (fold_all v xs)) h.1) ∙ tuples.at (fold_all v xs))) (omega arith)
+    (chain_bound q k (λ v. same_tuple (fold_all v xs) (fold_all v ys)) (differ xs ys ne) (λ v h f. one_more q k xs ys v l m h f))
+
+-- ---- vectors in plain words
+pub vector_of : (q k : ℕ) (v : List ℕ) → length v ≡ k → AllByRecursion (λ c. c < q) v → Vector q k v
+vector_of q zero [] l h = tt
+vector_of q zero (c ∷ v) l h = absurd (omega arith)
+vector_of q (suc k) [] l h = absurd (omega arith)
+vector_of q (suc k) (c ∷ v) l h = (h.0, vector_of q k v (omega arith) h.1)
+
+pub chains_counted : (q k : ℕ) (t : List ℕ → Bool) → t [] ≡ false → ((v : List ℕ) → length v < k → t v ≡ false → AtMost 1 (λ r. t (v ++ r ∷ []) ≡ true))
+    → AtMost (k * q ^ (k - 1)) (λ v. (length v ≡ k) × AllByRecursion (λ c. c < q) v × (t v ≡ true))
+chains_counted q k t f step =
+    at_most_weaker (λ v. (length v ≡ k) × AllByRecursion (λ c. c < q) v × (t v ≡ true)) (Reaches q k t) (k * q ^ (k - 1)) (k * q ^ (k - 1)) (λ v h. (vector_of q k v h.0 h.1, h.2)) (omega arith) (chain_bound q k t f step)

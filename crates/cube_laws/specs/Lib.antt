@@ -4,3 +4,5 @@ pub mod Form
 pub mod SumClaim
 pub mod Laws
 pub mod TableLaws
+pub mod Batch
+pub mod BatchLaws

@@ -5,15 +5,17 @@ use Rattle.tower_laws.specs.Tower.{mul}
 use Rattle.tower_laws.specs.Lists.{product_all, sums}
 use Rattle.cube_laws.specs.Sums.{sum_to, tabulate}
 use Rattle.cube_laws.specs.Extension.{eq, eq_points, weights, extension, fold_all, bits_of, kron}
+use Rattle.cube_laws.specs.Batch.{batched}
 use Rattle.cube_laws.specs.Form.{Form}
 use Rattle.cube_laws.specs.SumClaim.{Sum, summand, sum_at, AllLong}
 
--- values worked out by hand: 4 · 2 = 8 and 5 · 3 = 15, so eq of 4 and 2 is 7; 7 · 7 = 11; 2 · 2 = 3 and 2 · 3 = 1
+-- values worked out by hand: 4 · 2 = 8 and 5 · 3 = 15, so eq of 4 and 2 is 7; 7 · 7 = 11; 2 · 2 = 3 and 2 · 3 = 1; 4 · 3 = 12 and 4 · 5 = 13
 pub record AreWorkedTables : Type 0 where
   pub eq_of_numbers : eq_points (4 ∷ []) (2 ∷ []) ≡ 7
   pub eq_of_points : eq_points (4 ∷ 4 ∷ []) (2 ∷ 2 ∷ []) ≡ 11
   pub sums_are : sums (1 ∷ 2 ∷ 3 ∷ []) (3 ∷ []) ≡ 2 ∷ 2 ∷ 3 ∷ []
   pub product_is : kron (2 ∷ 3 ∷ []) (1 ∷ 2 ∷ []) ≡ 2 ∷ 3 ∷ 3 ∷ 1 ∷ []
+  pub batch_is : batched 2 4 ((1 ∷ 2 ∷ []) ∷ (3 ∷ 5 ∷ []) ∷ []) ≡ 13 ∷ 15 ∷ []
   pub fold_is : fold_all (4 ∷ 2 ∷ []) (1 ∷ 2 ∷ 3 ∷ 5 ∷ []) ≡ 8 ∷ []
 
 -- lists that a function of the place tells

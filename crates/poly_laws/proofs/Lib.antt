@@ -3,3 +3,4 @@ pub mod Polynomials
 pub mod Interpolating
 pub mod Products
 pub mod Terms
+pub mod Batches

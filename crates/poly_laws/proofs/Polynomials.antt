@@ -1,6 +1,7 @@
 -- Functions that are polynomials of a degree.
 use Rattle.std.proofs.Common.{◌≡◌, ℕ, zero, suc, ◌+◌, ◌≤◌, ◌<◌, List, [], ◌∷◌, length, bit_xor, refl, sym, ◌∙◌, ap, arith}
 use Rattle.tower_laws.specs.Tower.{mul}
+use Rattle.tower_laws.specs.Lists.{sums}
 use Rattle.poly_laws.specs.Polynomial.{horner, Polynomial}
 use Rattle.std.specs.List.{AllByRecursion}
 use Rattle.counting_laws.specs.Counting.{Distinct}
@@ -9,9 +10,7 @@ use Rattle.tower_laws.proofs.Field.{identity, from_one, from_two, field_terms}
 use Rattle.poly_laws.proofs.RootBound.{zero_by_roots, horner_zero}
 
 abbrev pub add_lists : List ℕ → List ℕ → List ℕ
-add_lists [] ys = ys
-add_lists (x ∷ xs) [] = x ∷ xs
-add_lists (x ∷ xs) (y ∷ ys) = bit_xor x y ∷ add_lists xs ys
+add_lists xs ys = sums xs ys
 
 abbrev pub scale_list : ℕ → List ℕ → List ℕ
 scale_list a [] = []

@@ -1,9 +1,9 @@
 -- The laws of polynomials, as statements.
 -- Source: docs/LAWS.md, "poly_laws: polynomials in one variable".
-use Rattle.std.specs.Prelude.{◌≡◌, ◌<◌, ◌+◌, ◌-◌, ℕ, List, [], ◌∷◌, length, slice_index, bit_xor}
+use Rattle.std.specs.Prelude.{◌≡◌, ◌<◌, ◌+◌, ◌-◌, ℕ, List, [], ◌∷◌, map, length, slice_index, bit_xor}
 use Rattle.std.specs.List.{AllByRecursion}
-use Rattle.tower_laws.specs.Tower.{mul}
-use Rattle.tower_laws.specs.Lists.{sum_all}
+use Rattle.tower_laws.specs.Tower.{Fits, mul}
+use Rattle.tower_laws.specs.Lists.{sum_all, sums, AllFit}
 use Rattle.counting_laws.specs.Counting.{AtMost}
 use Rattle.poly_laws.specs.Polynomial.{horner, terms, Polynomial}
 use Rattle.poly_laws.specs.Interpolation.{at}
@@ -31,3 +31,10 @@ pub record IsInterpolation : Type 0 where
   pub through : (values : List ℕ) (k : ℕ) → k < length values → at values k ≡ slice_index values k
   pub degree : (values : List ℕ) → 0 < length values → Polynomial (length values - 1) (at values)
   pub only : (d : ℕ) (f : ℕ → ℕ) (values : List ℕ) → length values ≡ d + 1 → Polynomial d f → ((k : ℕ) → k < length values → slice_index values k ≡ f k) → (x : ℕ) → at values x ≡ f x
+
+-- values joined by the powers of a number: linear in the values, of their level, and seldom equal where the values differ
+pub record AreBatches : Type 0 where
+  pub sum : (xs ys : List ℕ) (a : ℕ) → horner (sums xs ys) a ≡ bit_xor (horner xs a) (horner ys a)
+  pub multiple : (c : ℕ) (xs : List ℕ) (a : ℕ) → horner (map (mul c) xs) a ≡ mul c (horner xs a)
+  pub fits : (i a : ℕ) (xs : List ℕ) → Fits i a → AllFit i xs → Fits i (horner xs a)
+  pub differ : (xs ys : List ℕ) → length xs ≡ length ys → ¬ (xs ≡ ys) → AtMost (length xs - 1) (λ a. horner xs a ≡ horner ys a)

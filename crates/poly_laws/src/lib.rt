@@ -5,7 +5,7 @@
 
 #![tactic(auto)]
 
-ghost use Rattle.poly_laws.specs.Laws.{AreWorked, HaveDegrees, IsInterpolation, RootsAreFew, ValueIsSum};
+ghost use Rattle.poly_laws.specs.Laws.{AreBatches, AreWorked, HaveDegrees, IsInterpolation, RootsAreFew, ValueIsSum};
 
 /// The value of a polynomial is the sum of its coefficients times powers.
 pub fn values_are_sums()
@@ -30,4 +30,9 @@ pub fn degrees()
 /// Values at 0, 1, 2, .. are those of just one polynomial of a degree below their number.
 pub fn values_tell_the_polynomial()
     ensures { IsInterpolation }
+{}
+
+/// Values joined by the powers of a number.
+pub fn batches_tell_values()
+    ensures { AreBatches }
 {}

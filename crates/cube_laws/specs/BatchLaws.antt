@@ -1,0 +1,52 @@
+-- The laws of parts and products of tables, of batches and of chains of draws, as statements.
+-- Source: docs/LAWS.md, "cube_laws: tables over cubes".
+use Rattle.std.specs.Prelude.{◌≡◌, ◌<◌, ◌+◌, ◌*◌, ◌-◌, ◌^◌, ℕ, Bool, true, false, List, [], ◌∷◌, ◌++◌, map, take, drop, length, get_or}
+use Rattle.std.specs.List.{AllByRecursion}
+use Rattle.tower_laws.specs.Tower.{mul}
+use Rattle.counting_laws.specs.Counting.{AtMost}
+use Rattle.poly_laws.specs.Polynomial.{horner}
+use Rattle.cube_laws.specs.Sums.{tabulate}
+use Rattle.cube_laws.specs.Extension.{dot, eq_points, weights, extension, fold_low, fold_all, bits_of, kron}
+use Rattle.cube_laws.specs.Batch.{zeros, batched, pair_sum, values_of}
+use Rattle.cube_laws.specs.Form.{Form, variable, times, moved}
+use Rattle.cube_laws.specs.SumClaim.{sum_at, AllLong}
+
+-- products of tables in disjoint variables, and parts of a table by bits in its point
+pub record AreParts : Type 0 where
+  pub product_at : (ts es : List ℕ) (p q : ℕ) → p < length ts → get_or (kron ts es) (q * length ts + p) 0 ≡ mul (get_or ts p 0) (get_or es q 0)
+  pub product_weights : (low high : List ℕ) → weights (low ++ high) ≡ kron (weights low) (weights high)
+  pub product : (ts es low high : List ℕ) → length ts ≡ 2 ^ length low → extension (kron ts es) (low ++ high) ≡ mul (extension ts low) (extension es high)
+  pub corner : (n p : ℕ) (table : List ℕ) → p < 2 ^ n → extension table (bits_of n p) ≡ get_or table p 0
+  -- bits in the highest coordinates take one part of the table
+  pub aligned : (g q : ℕ) (table z : List ℕ) → q < 2 ^ g → extension table (z ++ bits_of g q) ≡ extension (take (2 ^ length z) (drop (q * 2 ^ length z) table)) z
+  pub against : (g q : ℕ) (table ts : List ℕ) → q < 2 ^ g → dot table (kron ts (weights (bits_of g q))) ≡ dot (take (length ts) (drop (q * length ts) table)) ts
+  -- bits in the lowest coordinates take every 2 ^ k-th value
+  pub every : (k j : ℕ) (table z : List ℕ) → j < 2 ^ k → extension (tabulate (2 ^ length z) (λ x. get_or table (x * 2 ^ k + j) 0)) z ≡ extension table (bits_of k j ++ z)
+  -- the values at all bits in the lowest coordinates, set one by one
+  pub list : (table rs z : List ℕ) → fold_all rs (tabulate (2 ^ length rs) (λ u. extension table (bits_of (length rs) u ++ z))) ≡ extension table (rs ++ z) ∷ []
+
+-- many tables or claims as one
+pub record AreBatches : Type 0 where
+  pub at : (n a p : ℕ) (ts : List (List ℕ)) → get_or (batched n a ts) p 0 ≡ horner (map (λ t. get_or t p 0) ts) a
+  pub extended : (n a : ℕ) (ts : List (List ℕ)) (z : List ℕ) → extension (batched n a ts) z ≡ horner (map (λ t. extension t z) ts) a
+  -- tables that aren't all 0 batch to 0 for at most one number less than there are tables
+  pub zero : (n : ℕ) (ts : List (List ℕ)) → AllLong n ts → ¬ AllByRecursion (λ t. t ≡ zeros n) ts → AtMost (length ts - 1) (λ a. batched n a ts ≡ zeros n)
+  pub pair : (n : ℕ) (f g : List ℕ) → length f ≡ 2 ^ n → length g ≡ 2 ^ n → sum_at (pair_sum f g) [] n ≡ dot f g
+  -- the values of one table at several points, as one sum
+  pub merge : (n a : ℕ) (points : List (List ℕ)) (table : List ℕ) → AllLong n points → length table ≡ 2 ^ n
+      → sum_at (pair_sum (batched (2 ^ n) a (map weights points)) table) [] n ≡ horner (map (extension table) points) a
+  pub final : (n a : ℕ) (points : List (List ℕ)) (table r : List ℕ) → AllLong n points → length r ≡ n
+      → sum_at (pair_sum (batched (2 ^ n) a (map weights points)) table) r 0 ≡ mul (horner (map (λ p. eq_points p r) points) a) (extension table r)
+
+-- a list that is to be 0
+pub record AreZeros : Type 0 where
+  pub coordinate : (n : ℕ) (ts : List ℕ) → length ts ≡ 2 * n → ¬ (ts ≡ zeros (2 * n)) → AtMost 1 (λ r. fold_low r ts ≡ zeros n)
+  pub sum : (z : List ℕ) (form : Form) (lists : List (List ℕ)) → AllLong (2 ^ length z) lists
+      → fold_all z (values_of (2 ^ length z) form lists) ≡ sum_at (record { form = times (variable 0) (moved form); lists = weights z ∷ lists }) [] (length z) ∷ []
+
+-- k draws, of which at most one number passes each where none passed before: at most k · q ^ (k - 1) vectors of k numbers below q pass.
+-- The test tells whether draws so far pass
+abbrev pub ChainsAreCounted : Type 0
+ChainsAreCounted =
+    (q k : ℕ) (passes : List ℕ → Bool) → passes [] ≡ false → ((v : List ℕ) → length v < k → passes v ≡ false → AtMost 1 (λ r. passes (v ++ r ∷ []) ≡ true))
+    → AtMost (k * q ^ (k - 1)) (λ v. (length v ≡ k) × AllByRecursion (λ c. c < q) v × (passes v ≡ true))
