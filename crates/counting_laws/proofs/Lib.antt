@@ -1,3 +1,4 @@
 pub mod Bounds
 pub mod Removal
 pub mod Permutations
+pub mod Several

@@ -1,6 +1,6 @@
 -- The laws of counting, as statements.
 -- Source: docs/LAWS.md, "counting_laws: counting and multisets".
-use Rattle.std.specs.Prelude.{◌≡◌, ◌+◌, ◌↔◌, ℕ, List, Bool, true, ◌||◌, IsPermutation}
+use Rattle.std.specs.Prelude.{◌≡◌, ◌+◌, ◌<◌, ◌↔◌, ℕ, List, Bool, true, false, ◌||◌, IsPermutation}
 use Rattle.counting_laws.specs.Counting.{AtMost}
 use Rattle.counting_laws.specs.Multiset.{Same, same_number, same_tuple, product_by}
 
@@ -19,3 +19,14 @@ SameTuples = (xs ys : List (List ℕ)) → Same same_tuple xs ys ↔ IsPermutati
 -- products over equal multisets of tuples are equal
 abbrev pub SameProducts : Type 0
 SameProducts = (f : List ℕ → ℕ) (xs ys : List (List ℕ)) → Same same_tuple xs ys → product_by f xs ≡ product_by f ys
+
+-- multisets that aren't unequal are equal
+pub record AreStable : Type 0 where
+  pub numbers : (xs ys : List ℕ) → ¬ (¬ Same same_number xs ys) → Same same_number xs ys
+  pub tuples : (xs ys : List (List ℕ)) → ¬ (¬ Same same_tuple xs ys) → Same same_tuple xs ys
+
+-- of n claims that don't all hold, all pass for at most k draws, where each that doesn't hold passes for at most k
+abbrev pub SeveralAreCounted : Type 0
+SeveralAreCounted =
+    (n k : ℕ) (holds : ℕ → Bool) (passes : ℕ → ℕ → Bool) → ((i : ℕ) → i < n → holds i ≡ false → AtMost k (λ x. passes i x ≡ true))
+    → ¬ ((i : ℕ) → i < n → holds i ≡ true) → AtMost k (λ x. (i : ℕ) → i < n → passes i x ≡ true)

@@ -5,7 +5,7 @@
 
 #![tactic(auto)]
 
-ghost use Rattle.counting_laws.specs.Laws.{CountsAdd, SameNumbers, SameProducts, SameTuples};
+ghost use Rattle.counting_laws.specs.Laws.{AreStable, CountsAdd, SameNumbers, SameProducts, SameTuples, SeveralAreCounted};
 
 /// Bounds on how many numbers pass two tests add up.
 pub fn counts_add()
@@ -21,4 +21,14 @@ pub fn equal_multisets_are_permutations()
 /// Equal multisets have equal products.
 pub fn equal_multisets_have_equal_products()
     ensures { SameProducts }
+{}
+
+/// Multisets that aren't unequal are equal.
+pub fn equal_multisets_are_stable()
+    ensures { AreStable }
+{}
+
+/// Claims that don't all hold all pass for no more draws than one of them.
+pub fn several_claims_are_counted()
+    ensures { SeveralAreCounted }
 {}
