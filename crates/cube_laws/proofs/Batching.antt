@@ -54,21 +54,30 @@ pair_sum_is n f g hf hg =
     let s = pair_sum f g in
     cube_sum_is n s.form s.lists (hf, (hg, tt)) ∙ sym (dot_sum (2 ^ n) f g hg)
 
+-- the sum of a batch of tables against one table is the batch of their sums, at all variables the batch of their extensions
+dots_against : (f : List ℕ) (ts : List (List ℕ)) → map (λ t. dot t f) ts ≡ map (dot f) ts
+dots_against f [] = refl
+dots_against f (t ∷ ts) = let e = dot-comm t f in let r = dots_against f ts in cc
+
+pub batch_sum : (n a : ℕ) (ts : List (List ℕ)) (f : List ℕ) → AllLong (2 ^ n) ts → length f ≡ 2 ^ n → sum_at (pair_sum (batched (2 ^ n) a ts) f) [] n ≡ horner (map (dot f) ts) a
+batch_sum n a ts f h l =
+    pair_sum_is n (batched (2 ^ n) a ts) f (length-batched (2 ^ n) a ts h) l ∙ dot-batched (2 ^ n) a ts f ∙ ap (λ vs. horner vs a) (dots_against f ts)
+
+pub batch_final : (n a : ℕ) (ts : List (List ℕ)) (f r : List ℕ) → sum_at (pair_sum (batched n a ts) f) r 0 ≡ mul (horner (map (λ t. extension t r) ts) a) (extension f r)
+batch_final n a ts f r = sum_at-all (pair_sum (batched n a ts) f) r ∙ ap (λ w. mul w (extension f r)) (extension-batched n a ts r)
+
 -- ---- values of one table at several points
 pub long_weights : (n : ℕ) (points : List (List ℕ)) → AllLong n points → AllLong (2 ^ n) (map weights points)
 long_weights n [] h = tt
 long_weights n (p ∷ ps) h = (length-weights p ∙ ap (λ k. 2 ^ k) h.0, long_weights n ps h.1)
 
-values_are : (table : List ℕ) (points : List (List ℕ)) → map (λ t. dot t table) (map weights points) ≡ map (extension table) points
+values_are : (table : List ℕ) (points : List (List ℕ)) → map (dot table) (map weights points) ≡ map (extension table) points
 values_are table [] = refl
-values_are table (p ∷ ps) = let e = dot-comm (weights p) table ∙ by_weights_is table p in let r = values_are table ps in cc
+values_are table (p ∷ ps) = let e = by_weights_is table p in let r = values_are table ps in cc
 
 pub merge_sum : (n a : ℕ) (points : List (List ℕ)) (table : List ℕ) → AllLong n points → length table ≡ 2 ^ n
     → sum_at (pair_sum (batched (2 ^ n) a (map weights points)) table) [] n ≡ horner (map (extension table) points) a
-merge_sum n a points table h l =
-    pair_sum_is n (batched (2 ^ n) a (map weights points)) table (length-batched (2 ^ n) a (map weights points) (long_weights n points h)) l
-    ∙ dot-batched (2 ^ n) a (map weights points) table
-    ∙ ap (λ vs. horner vs a) (values_are table points)
+merge_sum n a points table h l = batch_sum n a (map weights points) table (long_weights n points h) l ∙ ap (λ vs. horner vs a) (values_are table points)
 
 eqs_are : (n : ℕ) (r : List ℕ) (points : List (List ℕ)) → AllLong n points → length r ≡ n → map (λ t. extension t r) (map weights points) ≡ map (λ p. eq_points p r) points
 eqs_are n r [] h l = refl
@@ -76,9 +85,7 @@ eqs_are n r (p ∷ ps) h l = let e = weights_extend p r (h.0 ∙ sym l) in let q
 
 pub merge_final : (n a : ℕ) (points : List (List ℕ)) (table r : List ℕ) → AllLong n points → length r ≡ n
     → sum_at (pair_sum (batched (2 ^ n) a (map weights points)) table) r 0 ≡ mul (horner (map (λ p. eq_points p r) points) a) (extension table r)
-merge_final n a points table r h l =
-    sum_at-all (pair_sum (batched (2 ^ n) a (map weights points)) table) r
-    ∙ ap (λ w. mul w (extension table r)) (extension-batched (2 ^ n) a (map weights points) r ∙ ap (λ vs. horner vs a) (eqs_are n r points h l))
+merge_final n a points table r h l = batch_final (2 ^ n) a (map weights points) table r ∙ ap (λ vs. mul (horner vs a) (extension table r)) (eqs_are n r points h l)
 
 -- ---- tables that are to be 0
 pub zero_list : (n : ℕ) (t : List ℕ) → length t ≡ n → ((p : ℕ) → get_or t p 0 ≡ 0) → t ≡ zeros n

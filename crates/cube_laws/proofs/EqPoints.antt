@@ -4,10 +4,11 @@ use Rattle.std.proofs.lemmas.Nat.Bits.{bit_at_lowest, bit_at-suc}
 use Rattle.tower_laws.specs.Tower.{mul}
 use Rattle.tower_laws.proofs.Field.{identity, field_terms}
 use Rattle.tower_laws.proofs.Levels.{field_assoc, field_one}
-use Rattle.cube_laws.specs.Sums.{sum_to}
+use Rattle.cube_laws.specs.Sums.{sum_to, tabulate}
 use Rattle.cube_laws.specs.Extension.{bit, eq, eq_points, spread, weights, extension, fold_low, bits_of}
 use Rattle.cube_laws.proofs.Folding.{length-weights}
-use Rattle.cube_laws.proofs.Weights.{extension-fold_low, product_to-same, sum_to-same}
+use Rattle.cube_laws.proofs.Weights.{extension-fold_low, product_to-same, sum_to-same, weights_at}
+use Rattle.cube_laws.proofs.Tabulate.{entries}
 use Rattle.cube_laws.proofs.Linear.{extension-scale}
 
 -- eq of one coordinate of each
@@ -62,3 +63,7 @@ weights_extend (x ∷ z) (y ∷ r) h =
     ∙ ap (λ t. extension t r) (fold_low-spread x y (weights z))
     ∙ extension-scale (eq_one x y) (weights z) r
     ∙ ap (mul (eq_one x y)) (weights_extend z r (omega arith))
+
+-- the weights of a point are the table of eq
+pub weights_tabulated : (z : List ℕ) → weights z ≡ tabulate (2 ^ length z) (eq z)
+weights_tabulated z = entries (2 ^ length z) (eq z) (weights z) (length-weights z) (λ k l. weights_at z k l)

@@ -14,3 +14,4 @@ pub mod Coordinates
 pub mod Parts
 pub mod Batching
 pub mod Zeros
+pub mod Fits

@@ -32,6 +32,9 @@ pub record AreBatches : Type 0 where
   -- tables that aren't all 0 batch to 0 for at most one number less than there are tables
   pub zero : (n : ℕ) (ts : List (List ℕ)) → AllLong n ts → ¬ AllByRecursion (λ t. t ≡ zeros n) ts → AtMost (length ts - 1) (λ a. batched n a ts ≡ zeros n)
   pub pair : (n : ℕ) (f g : List ℕ) → length f ≡ 2 ^ n → length g ≡ 2 ^ n → sum_at (pair_sum f g) [] n ≡ dot f g
+  -- the sums of several tables against one, as one sum
+  pub sum : (n a : ℕ) (ts : List (List ℕ)) (f : List ℕ) → AllLong (2 ^ n) ts → length f ≡ 2 ^ n → sum_at (pair_sum (batched (2 ^ n) a ts) f) [] n ≡ horner (map (dot f) ts) a
+  pub last : (n a : ℕ) (ts : List (List ℕ)) (f r : List ℕ) → sum_at (pair_sum (batched n a ts) f) r 0 ≡ mul (horner (map (λ t. extension t r) ts) a) (extension f r)
   -- the values of one table at several points, as one sum
   pub merge : (n a : ℕ) (points : List (List ℕ)) (table : List ℕ) → AllLong n points → length table ≡ 2 ^ n
       → sum_at (pair_sum (batched (2 ^ n) a (map weights points)) table) [] n ≡ horner (map (extension table) points) a

@@ -1,8 +1,9 @@
 -- The laws of tables at points, as statements.
 -- Source: docs/LAWS.md, "cube_laws: tables over cubes".
 use Rattle.std.specs.Prelude.{◌≡◌, ◌<◌, ◌+◌, ◌*◌, ◌^◌, ℕ, suc, List, [], ◌∷◌, ◌++◌, map, take, drop, length, get_or, bit_xor}
-use Rattle.tower_laws.specs.Tower.{mul}
-use Rattle.tower_laws.specs.Lists.{product_all, sums}
+use Rattle.std.specs.List.{AllByRecursion}
+use Rattle.tower_laws.specs.Tower.{Fits, mul}
+use Rattle.tower_laws.specs.Lists.{product_all, sums, AllFit}
 use Rattle.cube_laws.specs.Sums.{sum_to, tabulate}
 use Rattle.cube_laws.specs.Extension.{eq, eq_points, weights, extension, fold_all, bits_of, kron}
 use Rattle.cube_laws.specs.Batch.{batched}
@@ -32,6 +33,7 @@ pub record IsEq : Type 0 where
   pub extension_is : (table z : List ℕ) → extension table z ≡ sum_to (2 ^ length z) (λ p. mul (get_or table p 0) (eq_points z (bits_of (length z) p)))
   pub symmetric : (x y : List ℕ) → eq_points x y ≡ eq_points y x
   pub joined : (x y u v : List ℕ) → length x ≡ length u → eq_points (x ++ y) (u ++ v) ≡ mul (eq_points x u) (eq_points y v)
+  pub weights_are : (z : List ℕ) → weights z ≡ tabulate (2 ^ length z) (eq z)
   -- the extension of eq's table
   pub table : (z r : List ℕ) → length z ≡ length r → extension (weights z) r ≡ eq_points z r
 
@@ -64,3 +66,11 @@ pub record AreSetSums : Type 0 where
       → sum_at (record { form = form; lists = lists }) (rs ++ rest) left ≡ sum_at (record { form = form; lists = map (fold_all rs) lists }) rest left
   -- with none left, it is the form's value
   pub all : (s : Sum) (r : List ℕ) → sum_at s r 0 ≡ summand s r
+
+-- what is made from numbers of a level stays in the level
+pub record StayInLevel : Type 0 where
+  pub weights_fit : (i : ℕ) (z : List ℕ) → AllFit i z → AllFit i (weights z)
+  pub eq_fits : (i : ℕ) (x y : List ℕ) → AllFit i x → AllFit i y → Fits i (eq_points x y)
+  pub extension_fits : (i : ℕ) (table z : List ℕ) → AllFit i table → AllFit i z → Fits i (extension table z)
+  pub folds_fit : (i : ℕ) (rs table : List ℕ) → AllFit i rs → AllFit i table → AllFit i (fold_all rs table)
+  pub batch_fits : (i n a : ℕ) (ts : List (List ℕ)) → Fits i a → AllByRecursion (AllFit i) ts → AllFit i (batched n a ts)

@@ -7,7 +7,7 @@
 
 ghost use Rattle.cube_laws.specs.Laws.{AreRounds, AreWorked, CubeSumIsSum, ExtensionAtCorners, ExtensionOfFold, FoldsDiffer, QuickExtension};
 ghost use Rattle.cube_laws.specs.BatchLaws.{AreBatches, AreParts, AreZeros, ChainsAreCounted};
-ghost use Rattle.cube_laws.specs.TableLaws.{AreCoordinates, AreLinear, AreSetSums, AreTabulated, AreWorkedTables, IsEq};
+ghost use Rattle.cube_laws.specs.TableLaws.{AreCoordinates, AreLinear, AreSetSums, AreTabulated, AreWorkedTables, IsEq, StayInLevel};
 
 /// What the extension of a table is at corners and under folds, and its quick form.
 pub fn extensions()
@@ -80,4 +80,9 @@ pub fn zeros_are_sums()
 /// How many vectors of draws pass a chain that each draw alone seldom passes.
 pub fn chains_are_counted()
     ensures { ChainsAreCounted }
+{}
+
+/// What is made from numbers of a level stays in the level.
+pub fn tables_stay_in_their_level()
+    ensures { StayInLevel }
 {}
