@@ -4,7 +4,11 @@ use Rattle.std.proofs.lemmas.Nat.{xor_shr, xor_mod, xor_lt, pow_pos}
 use Rattle.cube_laws.proofs.Folding.{length-weights}
 use Rattle.std.proofs.lemmas.Nat.Bits.{bit_at_lowest, bit_at-suc, bit_at-zero, same_from_bits_below, bit_at-lt}
 use Rattle.tower_laws.specs.Tower.{mul}
-use Rattle.cube_laws.specs.Extension.{bit, dot, spread, weights, extension}
+use Rattle.cube_laws.specs.Extension.{bit, dot, weights, extension, kron}
+use Rattle.cube_laws.proofs.Dots.{dot_nil, dot-scaled, dot-zeros, dot-tabulate_sum, dot-tabulate_times}
+use Rattle.cube_laws.proofs.Kron.{weights-joined}
+use Rattle.cube_laws.proofs.Tabulate.{get_or-tabulate, entries}
+use Rattle.std.proofs.lemmas.List.{length-map}
 use Rattle.cube_laws.proofs.Weights.{by_weights_is, dot-append, length-tabulate}
 use Rattle.tower_laws.proofs.Field.{identity, from_one, field_terms}
 use Rattle.tower_laws.proofs.Levels.{field_zero, field_one}
@@ -15,9 +19,6 @@ use Rattle.tensor_laws.specs.Tensor.{from_bits, column, row, across, bits_of_tab
 -- ---- bits of sums
 pub bit-xor : (a b i : ℕ) → bit (bit_xor a b) i ≡ bit_xor (bit a i) (bit b i)
 bit-xor a b i = ap (λ n. n % 2) (xor_shr a b i) ∙ xor_mod (a / 2 ^ i) (b / 2 ^ i) 1
-
-zero_times : (a : ℕ) → mul 0 a ≡ 0
-zero_times a = field_zero a
 
 -- a bit times a number
 bit-mul : (b e i : ℕ) → b < 2 → bit (mul b e) i ≡ mul b (bit e i)
@@ -98,95 +99,31 @@ columns_from_rows n es table cs he hc h v k =
     (λ u l. sym (bit-across cs u v) ∙ ap (λ w. bit w v) (h u l) ∙ sym (crossed es table u v))
 
 -- ---- columns under weights
-nothing : (w s : ℕ) → s ≡ 0 → bit_xor (mul 0 w) s ≡ 0
-nothing w s h = from_one 1 h (identity (w ∷ s ∷ []) (search field_terms depth 60 fits 20000) refl)
-
-dot_zeros : (n : ℕ) (ws : List ℕ) → dot (tabulate n (λ v. 0)) ws ≡ 0
-dot_zeros zero ws = refl
-dot_zeros (suc n) [] = refl
-dot_zeros (suc n) (w ∷ ws) = nothing w (dot (tabulate n (λ v. 0)) ws) (dot_zeros n ws)
-
-sum_step : (f g w s t r : ℕ) → r ≡ bit_xor s t → bit_xor (mul (bit_xor f g) w) r ≡ bit_xor (bit_xor (mul f w) s) (bit_xor (mul g w) t)
-sum_step f g w s t r h = from_one 1 h (identity (f ∷ g ∷ w ∷ s ∷ t ∷ r ∷ []) (search field_terms depth 60 fits 20000) refl)
-
-dot_sums : (n : ℕ) (f g : ℕ → ℕ) (ws : List ℕ) → dot (tabulate n (λ v. bit_xor (f v) (g v))) ws ≡ bit_xor (dot (tabulate n f) ws) (dot (tabulate n g) ws)
-dot_sums zero f g ws = refl
-dot_sums (suc n) f g [] = refl
-dot_sums (suc n) f g (w ∷ ws) = sum_step (f 0) (g 0) w _ _ _ (dot_sums n (λ v. f (suc v)) (λ v. g (suc v)) ws)
-
-scale_step : (f e w s r : ℕ) → r ≡ mul s e → bit_xor (mul (mul f e) w) r ≡ mul (bit_xor (mul f w) s) e
-scale_step f e w s r h = from_one 1 h (identity (f ∷ e ∷ w ∷ s ∷ r ∷ []) (search field_terms depth 60 fits 20000) refl)
-
-dot_scaled : (n : ℕ) (f : ℕ → ℕ) (e : ℕ) (ws : List ℕ) → dot (tabulate n (λ v. mul (f v) e)) ws ≡ mul (dot (tabulate n f) ws) e
-dot_scaled zero f e ws = sym (field_zero e)
-dot_scaled (suc n) f e [] = sym (field_zero e)
-dot_scaled (suc n) f e (w ∷ ws) = scale_step (f 0) e w _ _ (dot_scaled n (λ v. f (suc v)) e ws)
-
 -- the columns under weights are the numbers' bits under these weights, summed over the table
 pub columns_at : (n : ℕ) (es table ws : List ℕ) → dot (tabulate n (column es table)) ws ≡ dot (map (λ t. dot (tabulate n (bit t)) ws) table) es
-columns_at n es [] ws = dot_zeros n ws
-columns_at n [] (t ∷ table) ws = dot_zeros n ws
+columns_at n es [] ws = dot-zeros n ws
+columns_at n [] (t ∷ table) ws = dot-zeros n ws
 columns_at n (e ∷ es) (t ∷ table) ws =
-    dot_sums n (λ v. mul (bit t v) e) (column es table) ws
-    ∙ (λ i. bit_xor (dot_scaled n (bit t) e ws i) (columns_at n es table ws i))
+    dot-tabulate_sum n (λ v. mul (bit t v) e) (column es table) ws
+    ∙ (λ i. bit_xor (dot-tabulate_times n e (bit t) ws i) (columns_at n es table ws i))
 
 -- likewise the rows: the sum over u of w_u times row u is the sum over the table with A in place of the weights
 pub rows_at : (n : ℕ) (es table ws : List ℕ) → dot (tabulate n (row es table)) ws ≡ dot (map (λ e. dot (tabulate n (bit e)) ws) es) table
 rows_at n es table ws = columns_at n table es ws
 
 -- ---- the weights of two points one after the other
-abbrev kron : List ℕ → List ℕ → List ℕ
-kron ts [] = []
-kron ts (e ∷ es) = map (λ t. mul t e) ts ++ kron ts es
-
-spread-append : (x : ℕ) (ts us : List ℕ) → spread x (ts ++ us) ≡ spread x ts ++ spread x us
-spread-append x [] us = refl
-spread-append x (t ∷ ts) us = ap (λ l. mul t (bit_xor 1 x) ∷ mul t x ∷ l) (spread-append x ts us)
-
-turn : (t e x : ℕ) → mul (mul t e) x ≡ mul (mul t x) e
-turn t e x = identity (t ∷ e ∷ x ∷ []) (search field_terms depth 60 fits 20000) refl
-
-spread-scaled : (x e : ℕ) (ts : List ℕ) → spread x (map (λ t. mul t e) ts) ≡ map (λ t. mul t e) (spread x ts)
-spread-scaled x e [] = refl
-spread-scaled x e (t ∷ ts) = let a = turn t e (bit_xor 1 x) in let b = turn t e x in let r = spread-scaled x e ts in cc
-
-spread-kron : (x : ℕ) (ts es : List ℕ) → spread x (kron ts es) ≡ kron (spread x ts) es
-spread-kron x ts [] = refl
-spread-kron x ts (e ∷ es) = spread-append x (map (λ t. mul t e) ts) (kron ts es) ∙ (λ i. spread-scaled x e ts i ++ spread-kron x ts es i)
-
-kron_one : (es : List ℕ) → es ≡ kron (1 ∷ []) es
-kron_one [] = refl
-kron_one (e ∷ es) = let a = field_one e in let r = kron_one es in cc
-
 pub weights-append : (low high : List ℕ) → weights (low ++ high) ≡ kron (weights low) (weights high)
-weights-append [] high = kron_one (weights high)
-weights-append (x ∷ low) high = ap (spread x) (weights-append low high) ∙ spread-kron x (weights low) (weights high)
+weights-append low high = weights-joined low high
 
-out_step : (x t e s r : ℕ) → r ≡ mul s e → bit_xor (mul x (mul t e)) r ≡ mul (bit_xor (mul x t) s) e
-out_step x t e s r h = from_one 1 h (identity (x ∷ t ∷ e ∷ s ∷ r ∷ []) (search field_terms depth 60 fits 20000) refl)
-
-dot-scaled_r : (xs ts : List ℕ) (e : ℕ) → dot xs (map (λ t. mul t e) ts) ≡ mul (dot xs ts) e
-dot-scaled_r [] ts e = sym (field_zero e)
-dot-scaled_r (x ∷ xs) [] e = sym (field_zero e)
-dot-scaled_r (x ∷ xs) (t ∷ ts) e = out_step x t e _ _ (dot-scaled_r xs ts e)
-
-length-scaled : (ts : List ℕ) (e : ℕ) → length (map (λ t. mul t e) ts) ≡ length ts
-length-scaled [] e = refl
-length-scaled (t ∷ ts) e = ap suc (length-scaled ts e)
-
-dot-kron : (n : ℕ) (table ts es : List ℕ) → length ts ≡ n → dot (bits_of_table n table) (kron ts es) ≡ dot (map (λ t. dot (tabulate n (bit t)) ts) table) es
+pub dot-kron : (n : ℕ) (table ts es : List ℕ) → length ts ≡ n → dot (bits_of_table n table) (kron ts es) ≡ dot (map (λ t. dot (tabulate n (bit t)) ts) table) es
 dot-kron n [] ts [] h = refl
 dot-kron n [] ts (e ∷ es) h = refl
 dot-kron n (t ∷ table) ts [] h = dot_nil (tabulate n (bit t) ++ bits_of_table n table)
-  where
-    dot_nil : (xs : List ℕ) → dot xs [] ≡ 0
-    dot_nil [] = refl
-    dot_nil (x ∷ xs) = refl
 dot-kron n (t ∷ table) ts (e ∷ es) h =
     let a = length-tabulate n (bit t) in
-    let b = length-scaled ts e in
+    let b = length-map ts (λ t. mul t e) in
     dot-append (tabulate n (bit t)) (bits_of_table n table) (map (λ t. mul t e) ts) (kron ts es) (omega arith)
-    ∙ (λ i. bit_xor (dot-scaled_r (tabulate n (bit t)) ts e i) (dot-kron n table ts es h i))
+    ∙ (λ i. bit_xor (dot-scaled (tabulate n (bit t)) ts e i) (dot-kron n table ts es h i))
 
 -- the columns under the low weights are the extension of the bits
 pub columns_extension : (table low high : List ℕ) → dot (tabulate (2 ^ length low) (column (weights high) table)) (weights low) ≡ extension (bits_of_table (2 ^ length low) table) (low ++ high)
@@ -204,18 +141,7 @@ bits-from_bits bs h = tabulated bs (bit (from_bits bs)) (λ i. bit-from_bits bs 
     tabulated (x ∷ xs) f e = let p = e 0 in let q = tabulated xs (λ k. f (suc k)) (λ i. e (suc i)) in cc
 
 -- ---- as lists
-get_or-tabulate : (n : ℕ) (f : ℕ → ℕ) (k : ℕ) → k < n → get_or (tabulate n f) k 0 ≡ f k
-get_or-tabulate zero f k h = absurd (omega arith)
-get_or-tabulate (suc n) f zero h = refl
-get_or-tabulate (suc n) f (suc k) h = get_or-tabulate n (λ i. f (suc i)) k (omega arith)
-
-tabulate_is : (n : ℕ) (f : ℕ → ℕ) (cs : List ℕ) → length cs ≡ n → ((k : ℕ) → k < n → get_or cs k 0 ≡ f k) → cs ≡ tabulate n f
-tabulate_is zero f [] l h = refl
-tabulate_is (suc n) f [] l h = absurd (omega arith)
-tabulate_is zero f (c ∷ cs) l h = absurd (omega arith)
-tabulate_is (suc n) f (c ∷ cs) l h = let p = h 0 (omega arith) in let q = tabulate_is n (λ k. f (suc k)) cs (omega arith) (λ k m. h (suc k) (omega arith)) in cc
-
-each_at : (n : ℕ) (cs : List ℕ) → AllByRecursion (λ c. c < 2 ^ n) cs → (v : ℕ) → get_or cs v 0 < 2 ^ n
+pub each_at : (n : ℕ) (cs : List ℕ) → AllByRecursion (λ c. c < 2 ^ n) cs → (v : ℕ) → get_or cs v 0 < 2 ^ n
 each_at n [] h v = pow_pos n
 each_at n (c ∷ cs) h zero = h.0
 each_at n (c ∷ cs) h (suc v) = each_at n cs h.1 v
@@ -224,9 +150,9 @@ pub tensor_together : (n : ℕ) (es table cs : List ℕ) → length cs ≡ n →
     → (cs ≡ tabulate n (column es table) → tabulate n (across cs) ≡ tabulate n (row es table))
     × (tabulate n (across cs) ≡ tabulate n (row es table) → cs ≡ tabulate n (column es table))
 tensor_together n es table cs l he ht hc = (
-  λ e. tabulate_is n (row es table) (tabulate n (across cs)) (length-tabulate n (across cs))
-      (λ u k. get_or-tabulate n (across cs) u k ∙ rows_from_columns n es table cs l ht (λ v m. ap (λ w. get_or w v 0) e ∙ get_or-tabulate n (column es table) v m) u),
-  λ e. tabulate_is n (column es table) cs l
+  λ e. entries n (row es table) (tabulate n (across cs)) (length-tabulate n (across cs))
+      (λ u k. get_or-tabulate n u (across cs) k ∙ rows_from_columns n es table cs l ht (λ v m. ap (λ w. get_or w v 0) e ∙ get_or-tabulate n v (column es table) m) u),
+  λ e. entries n (column es table) cs l
       (columns_from_rows n es table cs he (λ v m. each_at n cs hc v)
-      (λ u k. sym (get_or-tabulate n (across cs) u k) ∙ ap (λ w. get_or w u 0) e ∙ get_or-tabulate n (row es table) u k)),
+      (λ u k. sym (get_or-tabulate n u (across cs) k) ∙ ap (λ w. get_or w u 0) e ∙ get_or-tabulate n u (row es table) k)),
 )

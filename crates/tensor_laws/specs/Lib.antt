@@ -1,2 +1,4 @@
 pub mod Tensor
 pub mod Laws
+pub mod Switch
+pub mod SwitchLaws
