@@ -1,0 +1,4 @@
+pub mod Subsets
+pub mod Powers
+pub mod Making
+pub mod Placing

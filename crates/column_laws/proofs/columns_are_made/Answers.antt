@@ -1,0 +1,6 @@
+use Rattle.cube_laws.proofs.Parts.{extension_every}
+use Rattle.column_laws.proofs.Making.{linear_is, packed_is}
+use Rattle.column_laws.proofs.columns_are_made.Goals as goal
+
+pub returns : goal.returns
+returns c = record { linear_column = linear_is; projected_column = extension_every; packed_column = packed_is }
