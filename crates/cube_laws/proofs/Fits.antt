@@ -1,5 +1,5 @@
 -- What is made from numbers of a level stays in the level.
-use Rattle.std.proofs.Common.{◌≡◌, ℕ, zero, suc, ◌^◌, ◌<◌, List, [], ◌∷◌, map, length, get_or, bit_xor, subst, arith}
+use Rattle.std.proofs.Common.{ℕ, zero, suc, ◌^◌, ◌<◌, List, [], ◌∷◌, map, bit_xor, subst}
 use Rattle.tower_laws.specs.Tower.{mul}
 use Rattle.tower_laws.specs.Lists.{AllFit}
 use Rattle.tower_laws.proofs.Levels.{mul_lt, one_lt_size, size_pos}

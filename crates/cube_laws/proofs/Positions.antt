@@ -95,7 +95,7 @@ sum_folded left r form fs prefix half k =
     cube_sum-same left (λ x. value form (map (λ f. extension f (r ∷ (prefix ++ x))) fs)) (λ x. value form (map (λ f. extension f (prefix ++ x)) (folded r fs))) (λ x. ap (value form) (extensions_folded r half (prefix ++ x) fs k))
 
 -- ---- a list's extension as a sum with eq: the list of a form's values
-value-moved : (form : Form) (a : ℕ) (xs : List ℕ) → value (moved form) (a ∷ xs) ≡ value form xs
+pub value-moved : (form : Form) (a : ℕ) (xs : List ℕ) → value (moved form) (a ∷ xs) ≡ value form xs
 value-moved (constant c) a xs = refl
 value-moved (variable k) a xs = refl
 value-moved (plus f g) a xs = let p = value-moved f a xs in let q = value-moved g a xs in cc

@@ -4,7 +4,8 @@ use Rattle.std.specs.Prelude.{ℕ, List, [], ◌∷◌, map}
 use Rattle.tower_laws.specs.Tower.{mul}
 use Rattle.tower_laws.specs.Lists.{sums}
 use Rattle.cube_laws.specs.Sums.{tabulate}
-use Rattle.cube_laws.specs.Form.{Form, value, variable, times}
+use Rattle.cube_laws.specs.Extension.{weights}
+use Rattle.cube_laws.specs.Form.{Form, value, variable, times, moved}
 use Rattle.cube_laws.specs.SumClaim.{Sum, row}
 
 -- n zeros
@@ -23,3 +24,7 @@ pair_sum f g = record { form = times (variable 0) (variable 1); lists = f ∷ g 
 -- the values of a form at n positions of tables
 abbrev pub values_of : ℕ → Form → List (List ℕ) → List ℕ
 values_of n form lists = tabulate n (λ p. value form (row lists p))
+
+-- the sum over a cube of eq of z times the form of the extensions of tables
+abbrev pub eq_sum : List ℕ → Form → List (List ℕ) → Sum
+eq_sum z form lists = record { form = times (variable 0) (moved form); lists = weights z ∷ lists }

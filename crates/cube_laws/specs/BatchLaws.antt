@@ -7,8 +7,8 @@ use Rattle.counting_laws.specs.Counting.{AtMost}
 use Rattle.poly_laws.specs.Polynomial.{horner}
 use Rattle.cube_laws.specs.Sums.{tabulate}
 use Rattle.cube_laws.specs.Extension.{dot, eq_points, weights, extension, fold_low, fold_all, bits_of, kron}
-use Rattle.cube_laws.specs.Batch.{zeros, batched, pair_sum, values_of}
-use Rattle.cube_laws.specs.Form.{Form, variable, times, moved}
+use Rattle.cube_laws.specs.Batch.{zeros, batched, pair_sum, values_of, eq_sum}
+use Rattle.cube_laws.specs.Form.{Form, value, degree}
 use Rattle.cube_laws.specs.SumClaim.{sum_at, AllLong}
 
 -- products of tables in disjoint variables, and parts of a table by bits in its point
@@ -41,11 +41,17 @@ pub record AreBatches : Type 0 where
   pub final : (n a : ℕ) (points : List (List ℕ)) (table r : List ℕ) → AllLong n points → length r ≡ n
       → sum_at (pair_sum (batched (2 ^ n) a (map weights points)) table) r 0 ≡ mul (horner (map (λ p. eq_points p r) points) a) (extension table r)
 
--- a list that is to be 0
+-- a list that is to be 0, one coordinate set after the other
 pub record AreZeros : Type 0 where
   pub coordinate : (n : ℕ) (ts : List ℕ) → length ts ≡ 2 * n → ¬ (ts ≡ zeros (2 * n)) → AtMost 1 (λ r. fold_low r ts ≡ zeros n)
-  pub sum : (z : List ℕ) (form : Form) (lists : List (List ℕ)) → AllLong (2 ^ length z) lists
-      → fold_all z (values_of (2 ^ length z) form lists) ≡ sum_at (record { form = times (variable 0) (moved form); lists = weights z ∷ lists }) [] (length z) ∷ []
+  -- set at all coordinates, the list of a form's values is a sum with eq
+  pub set : (z : List ℕ) (form : Form) (lists : List (List ℕ)) → AllLong (2 ^ length z) lists → fold_all z (values_of (2 ^ length z) form lists) ≡ sum_at (eq_sum z form lists) [] (length z) ∷ []
+
+-- a form's values at a point, as a sum with eq
+pub record AreEqSums : Type 0 where
+  pub sum : (z : List ℕ) (form : Form) (lists : List (List ℕ)) → AllLong (2 ^ length z) lists → extension (values_of (2 ^ length z) form lists) z ≡ sum_at (eq_sum z form lists) [] (length z)
+  pub final : (z r : List ℕ) (form : Form) (lists : List (List ℕ)) → length z ≡ length r → sum_at (eq_sum z form lists) r 0 ≡ mul (eq_points z r) (value form (map (λ f. extension f r) lists))
+  pub degree_is : (z : List ℕ) (form : Form) (lists : List (List ℕ)) → degree (eq_sum z form lists).form ≡ degree form + 1
 
 -- k draws, of which at most one number passes each where none passed before: at most k · q ^ (k - 1) vectors of k numbers below q pass.
 -- The test tells whether draws so far pass

@@ -6,7 +6,7 @@
 #![tactic(auto)]
 
 ghost use Rattle.cube_laws.specs.Laws.{AreRounds, AreWorked, CubeSumIsSum, ExtensionAtCorners, ExtensionOfFold, FoldsDiffer, QuickExtension};
-ghost use Rattle.cube_laws.specs.BatchLaws.{AreBatches, AreParts, AreZeros, ChainsAreCounted};
+ghost use Rattle.cube_laws.specs.BatchLaws.{AreBatches, AreEqSums, AreParts, AreZeros, ChainsAreCounted};
 ghost use Rattle.cube_laws.specs.TableLaws.{AreCoordinates, AreLinear, AreSetSums, AreTabulated, AreWorkedTables, IsEq, StayInLevel};
 
 /// What the extension of a table is at corners and under folds, and its quick form.
@@ -72,9 +72,10 @@ pub fn batches_tell_tables()
     ensures { AreBatches }
 {}
 
-/// A list that is to be 0, coordinate by coordinate and as a sum.
+/// A list that is to be 0, coordinate by coordinate, and a form's values as a sum with eq.
 pub fn zeros_are_sums()
-    ensures { AreZeros }
+    ensures zeros { AreZeros }
+    ensures sums { AreEqSums }
 {}
 
 /// How many vectors of draws pass a chain that each draw alone seldom passes.
