@@ -1,12 +1,13 @@
 -- The laws of the ring switch, as statements.
 -- Source: docs/LAWS.md, "tensor_laws: rows and columns of a packed table".
-use Rattle.std.specs.Prelude.{◌≡◌, ◌<◌, ◌*◌, ◌^◌, ℕ, List, [], ◌∷◌, ◌++◌, length, get_or}
+use Rattle.std.specs.Prelude.{◌≡◌, ◌<◌, ◌*◌, ◌^◌, ℕ, List, [], ◌∷◌, ◌++◌, map, length, get_or}
 use Rattle.std.specs.List.{AllByRecursion}
+use Rattle.tower_laws.specs.Tower.{Fits, mul}
 use Rattle.tower_laws.specs.Lists.{AllFit}
 use Rattle.cube_laws.specs.Sums.{tabulate}
 use Rattle.cube_laws.specs.Extension.{bit, dot, weights, extension, bits_of}
 use Rattle.tensor_laws.specs.Tensor.{column, row, bits_of_table}
-use Rattle.tensor_laws.specs.Switch.{transposed, packed_bits, combined, tensor_eq}
+use Rattle.tensor_laws.specs.Switch.{transposed, packed_bits, combined, scaled, tensor_eq}
 
 -- values worked out by hand: the weights of 2 are 3 and 2, those of 3 are 2 and 3
 pub record AreWorked : Type 0 where
@@ -31,6 +32,10 @@ pub record AreSwitched : Type 0 where
       → transposed (2 ^ i) cs ≡ tabulate (2 ^ i) (row (weights high) table) → dot cs (weights low) ≡ extension (bits_of_table (2 ^ i) table) (low ++ high)
   -- the rows at a point are a sum over the packed table
   pub switch : (high draws table : List ℕ) → extension (tabulate (2 ^ length draws) (row (weights high) table)) draws ≡ dot (combined high draws) table
+  -- rows times a number and columns times another are those of the multiples
+  pub multiples : (i h a : ℕ) (es table : List ℕ) → Fits i a → AllFit i es → AllFit i table → scaled (2 ^ i) h a (tabulate (2 ^ i) (row es table)) ≡ tabulate (2 ^ i) (row (map (mul h) es) (map (mul a) table))
+  -- coordinate by coordinate, the rows of the sum over w of eq(high, w) ⊗ eq(at, w)
+  pub rows : (i : ℕ) (high at : List ℕ) → length high ≡ length at → AllFit i high → AllFit i at → tensor_eq (2 ^ i) high at ≡ tabulate (2 ^ i) (row (weights high) (weights at))
   -- A at a point, without a sum over its positions
   pub at_point : (high at draws : List ℕ) → length high ≡ length at → AllFit (length draws) high → AllFit (length draws) at
       → extension (combined high draws) at ≡ dot (tensor_eq (2 ^ length draws) high at) (weights draws)

@@ -1,3 +1,4 @@
 pub mod CodeWord
 pub mod Encoding
+pub mod WordLists
 pub mod Laws

@@ -5,7 +5,7 @@
 
 #![tactic(auto)]
 
-ghost use Rattle.word_laws.specs.Laws.{AreVanishing, EncodeIsWord, FoldOfWord, LastWord, QuickWord};
+ghost use Rattle.word_laws.specs.Laws.{AreFolds, AreVanishing, AreWorked, EncodeIsWord, FoldOfWord, LastWord, QuickWord, StayInLevel};
 
 /// The polynomials that vanish below a power of 2.
 pub fn vanishing_polynomials()
@@ -22,4 +22,19 @@ pub fn word_folds()
 /// The transform by butterflies gives the word.
 pub fn transform()
     ensures { EncodeIsWord }
+{}
+
+/// Words as lists, folded to their end.
+pub fn lists_are_folded()
+    ensures { AreFolds }
+{}
+
+/// Hats, words and folds of numbers of a level stay in the level.
+pub fn words_stay_in_their_level()
+    ensures { StayInLevel }
+{}
+
+/// A word and its fold, worked out by hand.
+pub fn worked_values()
+    ensures { AreWorked }
 {}
