@@ -2,11 +2,11 @@
 use Rattle.std.proofs.Common.{◌≡◌, ◌≢◌, ℕ, zero, suc, ◌+◌, ◌-◌, ◌*◌, ◌/◌, ◌%◌, ◌^◌, ◌<◌, ◌≤◌, ◌⊎◌, inl, inr, leb, ltb, eqb, Bool, true, false, cond, List, [], ◌∷◌, ◌++◌, length, get_or, bit_xor, refl, sym, ◌∙◌, ap, arith}
 use Rattle.std.proofs.lemmas.Bool.{cases_lt, lt-ltb}
 use Rattle.std.proofs.lemmas.Bool.Decides.{eqb_tells, nat_tests}
-use Rattle.std.proofs.lemmas.Nat.{mod-mul-add, div-mul-add, pow_pos}
+use Rattle.std.proofs.lemmas.Nat.{mod-mul-add, pow_pos}
 use Rattle.tower_laws.specs.Tower.{mul}
 use Rattle.tower_laws.proofs.Field.{identity, from_one, field_terms}
 use Rattle.cube_laws.specs.Sums.{sum_to, tabulate}
-use Rattle.cube_laws.specs.Extension.{dot, extension, weights, fold_all, bits_of}
+use Rattle.cube_laws.specs.Extension.{dot, extension, weights, bits_of}
 use Rattle.cube_laws.specs.SumClaim.{sum_at}
 use Rattle.cube_laws.proofs.Batching.{pair_sum_is}
 use Rattle.cube_laws.proofs.Coordinates.{fold_all_is, sum_at-all}
@@ -15,7 +15,7 @@ use Rattle.cube_laws.proofs.Folding.{length-weights}
 use Rattle.cube_laws.proofs.Kron.{weights-joined}
 use Rattle.cube_laws.proofs.Parts.{blocks, dot-blocks, extension_every, fold_list}
 use Rattle.cube_laws.proofs.Tabulate.{take-tabulate, drop-tabulate}
-use Rattle.cube_laws.proofs.Weights.{tabulate-same, length-tabulate, by_weights_is, sum_to-same}
+use Rattle.cube_laws.proofs.Weights.{tabulate-same, length-tabulate, by_weights_is}
 use Rattle.shift_laws.specs.Shifts.{Shift, shl, shr, rol, flag, shifted_value, shifted, goes, pairs_at, shift_at, shift_sum}
 
 -- ---- tests
