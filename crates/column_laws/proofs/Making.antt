@@ -6,7 +6,7 @@ use Rattle.cube_laws.specs.Extension.{dot, extension, weights, bits_of}
 use Rattle.cube_laws.specs.SumClaim.{row}
 use Rattle.cube_laws.proofs.Dots.{dot-comm, dot-exchange, sum_to-dot}
 use Rattle.cube_laws.proofs.Linear.{extension-scale, extension-sums, extension-constant}
-use Rattle.cube_laws.proofs.Parts.{extension-padded, extension_every}
+use Rattle.batch_laws.proofs.Parts.{extension-padded, extension_every}
 use Rattle.cube_laws.proofs.Tabulate.{map-tabulate, sums-tabulate}
 use Rattle.cube_laws.proofs.Weights.{tabulate-same, by_weights_is}
 use Rattle.column_laws.specs.Columns.{linear_value, linear, packed}

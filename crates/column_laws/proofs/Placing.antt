@@ -9,7 +9,7 @@ use Rattle.cube_laws.specs.Extension.{bit, dot, eq_points, extension, weights, b
 use Rattle.cube_laws.proofs.EqPoints.{weights_extend}
 use Rattle.cube_laws.proofs.Folding.{length-weights, length-bits_of}
 use Rattle.cube_laws.proofs.Kron.{length-kron, extension-kron}
-use Rattle.cube_laws.proofs.Parts.{dot_part, length-corner}
+use Rattle.batch_laws.proofs.Parts.{dot_part, length-corner}
 use Rattle.cube_laws.proofs.Weights.{by_weights_is, length-tabulate, tabulate-same}
 use Rattle.tensor_laws.specs.Tensor.{bits_of_table}
 use Rattle.tensor_laws.proofs.Crossing.{dot-kron}

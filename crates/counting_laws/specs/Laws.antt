@@ -1,6 +1,7 @@
 -- The laws of counting, as statements.
 -- Source: docs/LAWS.md, "counting_laws: counting and multisets".
-use Rattle.std.specs.Prelude.{◌≡◌, ◌+◌, ◌<◌, ◌↔◌, ℕ, List, Bool, true, false, ◌||◌, IsPermutation}
+use Rattle.std.specs.Prelude.{◌≡◌, ◌+◌, ◌*◌, ◌-◌, ◌^◌, ◌<◌, ◌↔◌, ℕ, List, [], ◌∷◌, ◌++◌, length, Bool, true, false, ◌||◌, IsPermutation}
+use Rattle.std.specs.List.{AllByRecursion}
 use Rattle.counting_laws.specs.Counting.{AtMost}
 use Rattle.counting_laws.specs.Multiset.{Same, same_number, same_tuple, product_by}
 
@@ -30,3 +31,10 @@ abbrev pub SeveralAreCounted : Type 0
 SeveralAreCounted =
     (n k : ℕ) (holds : ℕ → Bool) (passes : ℕ → ℕ → Bool) → ((i : ℕ) → i < n → holds i ≡ false → AtMost k (λ x. passes i x ≡ true))
     → ¬ ((i : ℕ) → i < n → holds i ≡ true) → AtMost k (λ x. (i : ℕ) → i < n → passes i x ≡ true)
+
+-- k draws, of which at most one number passes each where none passed before: at most k · q ^ (k - 1) vectors of k numbers below q pass.
+-- The test tells whether draws so far pass
+abbrev pub ChainsAreCounted : Type 0
+ChainsAreCounted =
+    (q k : ℕ) (passes : List ℕ → Bool) → passes [] ≡ false → ((v : List ℕ) → length v < k → passes v ≡ false → AtMost 1 (λ r. passes (v ++ r ∷ []) ≡ true))
+    → AtMost (k * q ^ (k - 1)) (λ v. (length v ≡ k) × AllByRecursion (λ c. c < q) v × (passes v ≡ true))

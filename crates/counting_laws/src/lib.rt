@@ -5,7 +5,7 @@
 
 #![tactic(auto)]
 
-ghost use Rattle.counting_laws.specs.Laws.{AreStable, CountsAdd, SameNumbers, SameProducts, SameTuples, SeveralAreCounted};
+ghost use Rattle.counting_laws.specs.Laws.{AreStable, ChainsAreCounted, CountsAdd, SameNumbers, SameProducts, SameTuples, SeveralAreCounted};
 
 /// Bounds on how many numbers pass two tests add up.
 pub fn counts_add()
@@ -31,4 +31,9 @@ pub fn equal_multisets_are_stable()
 /// Claims that don't all hold all pass for no more draws than one of them.
 pub fn several_claims_are_counted()
     ensures { SeveralAreCounted }
+{}
+
+/// How many vectors of draws pass a chain that each draw alone seldom passes.
+pub fn chains_are_counted()
+    ensures { ChainsAreCounted }
 {}

@@ -11,7 +11,3 @@ pub mod Linear
 pub mod Kron
 pub mod EqPoints
 pub mod Coordinates
-pub mod Parts
-pub mod Batching
-pub mod Zeros
-pub mod Fits

@@ -4,5 +4,3 @@ pub mod Form
 pub mod SumClaim
 pub mod Laws
 pub mod TableLaws
-pub mod Batch
-pub mod BatchLaws

@@ -1,22 +1,19 @@
 -- The laws of tables at points, as statements.
 -- Source: docs/LAWS.md, "cube_laws: tables over cubes".
 use Rattle.std.specs.Prelude.{◌≡◌, ◌<◌, ◌+◌, ◌*◌, ◌^◌, ℕ, suc, List, [], ◌∷◌, ◌++◌, map, take, drop, length, get_or, bit_xor}
-use Rattle.std.specs.List.{AllByRecursion}
-use Rattle.tower_laws.specs.Tower.{Fits, mul}
-use Rattle.tower_laws.specs.Lists.{product_all, sums, AllFit}
+use Rattle.tower_laws.specs.Tower.{mul}
+use Rattle.tower_laws.specs.Lists.{product_all, sums}
 use Rattle.cube_laws.specs.Sums.{sum_to, tabulate}
 use Rattle.cube_laws.specs.Extension.{eq, eq_points, weights, extension, fold_all, bits_of, kron}
-use Rattle.cube_laws.specs.Batch.{batched}
 use Rattle.cube_laws.specs.Form.{Form}
 use Rattle.cube_laws.specs.SumClaim.{Sum, summand, sum_at, AllLong}
 
--- values worked out by hand: 4 · 2 = 8 and 5 · 3 = 15, so eq of 4 and 2 is 7; 7 · 7 = 11; 2 · 2 = 3 and 2 · 3 = 1; 4 · 3 = 12 and 4 · 5 = 13
+-- values worked out by hand: 4 · 2 = 8 and 5 · 3 = 15, so eq of 4 and 2 is 7; 7 · 7 = 11; 2 · 2 = 3 and 2 · 3 = 1
 pub record AreWorkedTables : Type 0 where
   pub eq_of_numbers : eq_points (4 ∷ []) (2 ∷ []) ≡ 7
   pub eq_of_points : eq_points (4 ∷ 4 ∷ []) (2 ∷ 2 ∷ []) ≡ 11
   pub sums_are : sums (1 ∷ 2 ∷ 3 ∷ []) (3 ∷ []) ≡ 2 ∷ 2 ∷ 3 ∷ []
   pub product_is : kron (2 ∷ 3 ∷ []) (1 ∷ 2 ∷ []) ≡ 2 ∷ 3 ∷ 3 ∷ 1 ∷ []
-  pub batch_is : batched 2 4 ((1 ∷ 2 ∷ []) ∷ (3 ∷ 5 ∷ []) ∷ []) ≡ 13 ∷ 15 ∷ []
   pub fold_is : fold_all (4 ∷ 2 ∷ []) (1 ∷ 2 ∷ 3 ∷ 5 ∷ []) ≡ 8 ∷ []
 
 -- lists that a function of the place tells
@@ -66,11 +63,3 @@ pub record AreSetSums : Type 0 where
       → sum_at (record { form = form; lists = lists }) (rs ++ rest) left ≡ sum_at (record { form = form; lists = map (fold_all rs) lists }) rest left
   -- with none left, it is the form's value
   pub all : (s : Sum) (r : List ℕ) → sum_at s r 0 ≡ summand s r
-
--- what is made from numbers of a level stays in the level
-pub record StayInLevel : Type 0 where
-  pub weights_fit : (i : ℕ) (z : List ℕ) → AllFit i z → AllFit i (weights z)
-  pub eq_fits : (i : ℕ) (x y : List ℕ) → AllFit i x → AllFit i y → Fits i (eq_points x y)
-  pub extension_fits : (i : ℕ) (table z : List ℕ) → AllFit i table → AllFit i z → Fits i (extension table z)
-  pub folds_fit : (i : ℕ) (rs table : List ℕ) → AllFit i rs → AllFit i table → AllFit i (fold_all rs table)
-  pub batch_fits : (i n a : ℕ) (ts : List (List ℕ)) → Fits i a → AllByRecursion (AllFit i) ts → AllFit i (batched n a ts)

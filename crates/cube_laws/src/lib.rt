@@ -6,8 +6,7 @@
 #![tactic(auto)]
 
 ghost use Rattle.cube_laws.specs.Laws.{AreRounds, AreWorked, CubeSumIsSum, ExtensionAtCorners, ExtensionOfFold, FoldsDiffer, QuickExtension};
-ghost use Rattle.cube_laws.specs.BatchLaws.{AreBatches, AreEqSums, AreParts, AreZeros, ChainsAreCounted};
-ghost use Rattle.cube_laws.specs.TableLaws.{AreCoordinates, AreLinear, AreSetSums, AreTabulated, AreWorkedTables, IsEq, StayInLevel};
+ghost use Rattle.cube_laws.specs.TableLaws.{AreCoordinates, AreLinear, AreSetSums, AreTabulated, AreWorkedTables, IsEq};
 
 /// What the extension of a table is at corners and under folds, and its quick form.
 pub fn extensions()
@@ -60,30 +59,4 @@ pub fn extensions_are_linear()
 /// eq of two points, a product of two tables and a fold, worked out by hand.
 pub fn worked_tables()
     ensures { AreWorkedTables }
-{}
-
-/// Products of tables in disjoint variables, and parts of a table by bits in its point.
-pub fn tables_have_parts()
-    ensures { AreParts }
-{}
-
-/// Many tables or claims as one, by the powers of a number.
-pub fn batches_tell_tables()
-    ensures { AreBatches }
-{}
-
-/// A list that is to be 0, coordinate by coordinate, and a form's values as a sum with eq.
-pub fn zeros_are_sums()
-    ensures zeros { AreZeros }
-    ensures sums { AreEqSums }
-{}
-
-/// How many vectors of draws pass a chain that each draw alone seldom passes.
-pub fn chains_are_counted()
-    ensures { ChainsAreCounted }
-{}
-
-/// What is made from numbers of a level stays in the level.
-pub fn tables_stay_in_their_level()
-    ensures { StayInLevel }
 {}

@@ -9,7 +9,7 @@ use Rattle.counting_laws.specs.Counting.{AtMost}
 use Rattle.counting_laws.proofs.Bounds.{at_most_from}
 use Rattle.poly_laws.proofs.Polynomials.{line_poly, same_poly, same_polys}
 use Rattle.cube_laws.specs.Sums.{tabulate}
-use Rattle.cube_laws.specs.Batch.{values_of}
+use Rattle.batch_laws.specs.Batch.{values_of}
 use Rattle.cube_laws.specs.Extension.{eq_points, extension}
 use Rattle.cube_laws.specs.Form.{variable, times}
 use Rattle.cube_laws.specs.SumClaim.{sum_at}
@@ -17,7 +17,7 @@ use Rattle.cube_laws.proofs.Coordinates.{extension_halves, extension_choice}
 use Rattle.cube_laws.proofs.Degrees.{extension_poly}
 use Rattle.cube_laws.proofs.Tabulate.{get_or-tabulate, tabulated, product_all-pairs}
 use Rattle.cube_laws.proofs.Weights.{tabulate-same, tabulate-add, length-tabulate}
-use Rattle.cube_laws.proofs.Zeros.{eq_sum_is, eq_sum_final}
+use Rattle.batch_laws.proofs.Zeros.{eq_sum_is, eq_sum_final}
 use Rattle.layer_laws.specs.Layers.{halved, layer, layer_sum}
 
 pub halves_are : (k d p : ℕ) (leaves : List ℕ) → p < 2 ^ k → get_or (layer k (suc d) leaves) p 0 ≡ mul (get_or (layer (suc k) d leaves) p 0) (get_or (layer (suc k) d leaves) (p + 2 ^ k) 0)

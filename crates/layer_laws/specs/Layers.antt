@@ -3,7 +3,7 @@
 use Rattle.std.specs.Prelude.{ℕ, zero, suc, ◌+◌, ◌^◌, List, [], ◌∷◌, take, drop, get_or}
 use Rattle.tower_laws.specs.Tower.{mul}
 use Rattle.cube_laws.specs.Sums.{tabulate}
-use Rattle.cube_laws.specs.Batch.{eq_sum}
+use Rattle.batch_laws.specs.Batch.{eq_sum}
 use Rattle.cube_laws.specs.Form.{variable, times}
 use Rattle.cube_laws.specs.SumClaim.{Sum}
 

@@ -8,12 +8,12 @@ use Rattle.tower_laws.proofs.Field.{identity, from_one, field_terms}
 use Rattle.cube_laws.specs.Sums.{sum_to, tabulate}
 use Rattle.cube_laws.specs.Extension.{dot, extension, weights, bits_of}
 use Rattle.cube_laws.specs.SumClaim.{sum_at}
-use Rattle.cube_laws.proofs.Batching.{pair_sum_is}
+use Rattle.batch_laws.proofs.Batching.{pair_sum_is}
 use Rattle.cube_laws.proofs.Coordinates.{fold_all_is, sum_at-all}
 use Rattle.cube_laws.proofs.Dots.{dot-comm, dot-exchange, sum_to-dot}
 use Rattle.cube_laws.proofs.Folding.{length-weights}
 use Rattle.cube_laws.proofs.Kron.{weights-joined}
-use Rattle.cube_laws.proofs.Parts.{blocks, dot-blocks, extension_every, fold_list}
+use Rattle.batch_laws.proofs.Parts.{blocks, dot-blocks, extension_every, fold_list}
 use Rattle.cube_laws.proofs.Tabulate.{take-tabulate, drop-tabulate}
 use Rattle.cube_laws.proofs.Weights.{tabulate-same, length-tabulate, by_weights_is}
 use Rattle.shift_laws.specs.Shifts.{Shift, shl, shr, rol, flag, shifted_value, shifted, goes, pairs_at, shift_at, shift_sum}

@@ -2,7 +2,7 @@
 -- Source: docs/LAWS.md, "shift_laws: shifts within blocks and steps".
 use Rattle.std.specs.Prelude.{ℕ, ◌+◌, ◌-◌, ◌*◌, ◌%◌, ◌^◌, leb, ltb, ◌==◌, Bool, cond, List, ◌++◌, length, get_or, bit_xor}
 use Rattle.cube_laws.specs.Sums.{tabulate}
-use Rattle.cube_laws.specs.Batch.{pair_sum}
+use Rattle.batch_laws.specs.Batch.{pair_sum}
 use Rattle.cube_laws.specs.Extension.{extension, bits_of}
 use Rattle.cube_laws.specs.SumClaim.{Sum}
 

@@ -11,9 +11,9 @@ use Rattle.cube_laws.specs.Sums.{tabulate}
 use Rattle.cube_laws.specs.Extension.{bit, dot, eq, spread, extension, weights, bits_of}
 use Rattle.cube_laws.proofs.Dots.{dot-scale, dot-comm, sum_to-dot}
 use Rattle.cube_laws.proofs.EqPoints.{weights_tabulated}
-use Rattle.cube_laws.proofs.Fits.{all_fit-weights, one_plus_fits}
+use Rattle.batch_laws.proofs.Fits.{all_fit-weights, one_plus_fits}
 use Rattle.cube_laws.proofs.Folding.{length-bits_of, length-weights}
-use Rattle.cube_laws.proofs.Parts.{dot_at}
+use Rattle.batch_laws.proofs.Parts.{dot_at}
 use Rattle.cube_laws.proofs.Tabulate.{get_or-tabulate, map-tabulate, sums-tabulate, entries}
 use Rattle.cube_laws.proofs.Weights.{tabulate-same, length-tabulate, by_weights_is}
 use Rattle.tensor_laws.specs.Tensor.{from_bits, row, column, across, bits_of_table}

@@ -9,7 +9,6 @@ use Rattle.tower_laws.proofs.Levels.{mul_lt, one_lt_size, size_pos}
 use Rattle.tower_laws.proofs.Lists.{xor_fits, get_or_fits}
 use Rattle.cube_laws.specs.Sums.{sum_to, product_to}
 use Rattle.cube_laws.specs.Extension.{bit}
-use Rattle.cube_laws.proofs.Fits.{one_plus_fits}
 use Rattle.word_laws.specs.CodeWord.{vanish, hat, word, fold_pair}
 
 pub product_to_fits : (l n : ℕ) (f : ℕ → ℕ) → ((k : ℕ) → k < n → f k < 2 ^ (2 ^ l)) → product_to n f < 2 ^ (2 ^ l)
@@ -41,6 +40,6 @@ word_fits l j k p table h n m =
 pub fold_pair_fits : (l r x f g : ℕ) → r < 2 ^ (2 ^ l) → x < 2 ^ (2 ^ l) → f < 2 ^ (2 ^ l) → g < 2 ^ (2 ^ l) → fold_pair r x f g < 2 ^ (2 ^ l)
 fold_pair_fits l r x f g hr hx hf hg =
     xor_fits l _ _
-    (mul_lt l (bit_xor 1 r) (bit_xor (mul (bit_xor x 1) f) (mul x g)) (one_plus_fits l r hr)
+    (mul_lt l (bit_xor 1 r) (bit_xor (mul (bit_xor x 1) f) (mul x g)) (xor_fits l 1 r (one_lt_size l) hr)
     (xor_fits l (mul (bit_xor x 1) f) (mul x g) (mul_lt l (bit_xor x 1) f (xor_fits l x 1 hx (one_lt_size l)) hf) (mul_lt l x g hx hg)))
     (mul_lt l r (bit_xor f g) hr (xor_fits l f g hf hg))

@@ -1,4 +1,4 @@
-use Rattle.cube_laws.proofs.Parts.{extension_every}
+use Rattle.batch_laws.proofs.Parts.{extension_every}
 use Rattle.column_laws.proofs.Making.{linear_is, packed_is}
 use Rattle.column_laws.proofs.columns_are_made.Goals as goal
 

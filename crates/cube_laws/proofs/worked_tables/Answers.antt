@@ -4,4 +4,4 @@ use Rattle.cube_laws.proofs.worked_tables.Goals as goal
 
 pub returns : goal.returns
 unfolding mul product level level_from generator
-returns c = record { eq_of_numbers = refl; eq_of_points = refl; sums_are = refl; product_is = refl; batch_is = refl; fold_is = refl }
+returns c = record { eq_of_numbers = refl; eq_of_points = refl; sums_are = refl; product_is = refl; fold_is = refl }

@@ -1,5 +1,5 @@
-use Rattle.cube_laws.proofs.Zeros.{coordinate_zero, zero_to_sum, eq_sum_is, eq_sum_final, degree-eq_sum}
-use Rattle.cube_laws.proofs.zeros_are_sums.Goals as goal
+use Rattle.batch_laws.proofs.Zeros.{coordinate_zero, zero_to_sum, eq_sum_is, eq_sum_final, degree-eq_sum}
+use Rattle.batch_laws.proofs.zeros_are_sums.Goals as goal
 
 pub returns : goal.returns
 returns c = record {

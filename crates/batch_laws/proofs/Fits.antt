@@ -4,7 +4,7 @@ use Rattle.tower_laws.specs.Tower.{mul}
 use Rattle.tower_laws.specs.Lists.{AllFit}
 use Rattle.tower_laws.proofs.Levels.{mul_lt, one_lt_size, size_pos}
 use Rattle.tower_laws.proofs.Lists.{xor_fits, all_fit-append, all_fit-sums, all_fit-scaled}
-use Rattle.cube_laws.specs.Batch.{batched}
+use Rattle.batch_laws.specs.Batch.{batched}
 use Rattle.cube_laws.specs.Extension.{dot, eq_points, spread, weights, extension, fold_low, fold_all, kron}
 use Rattle.cube_laws.specs.Sums.{tabulate}
 use Rattle.cube_laws.proofs.Weights.{by_weights_is}

@@ -1,14 +1,15 @@
--- The laws of parts and products of tables, of batches and of chains of draws, as statements.
--- Source: docs/LAWS.md, "cube_laws: tables over cubes".
-use Rattle.std.specs.Prelude.{◌≡◌, ◌<◌, ◌+◌, ◌*◌, ◌-◌, ◌^◌, ℕ, Bool, true, false, List, [], ◌∷◌, ◌++◌, map, take, drop, length, get_or}
+-- The laws of parts and products of tables, of batches and of sums with eq, as statements.
+-- Source: docs/LAWS.md, "batch_laws: parts of tables, and many as one".
+use Rattle.std.specs.Prelude.{◌≡◌, ◌<◌, ◌+◌, ◌*◌, ◌-◌, ◌^◌, ℕ, List, [], ◌∷◌, ◌++◌, map, take, drop, length, get_or}
 use Rattle.std.specs.List.{AllByRecursion}
-use Rattle.tower_laws.specs.Tower.{mul}
+use Rattle.tower_laws.specs.Tower.{Fits, mul}
+use Rattle.tower_laws.specs.Lists.{AllFit}
 use Rattle.counting_laws.specs.Counting.{AtMost}
 use Rattle.poly_laws.specs.Polynomial.{horner}
 use Rattle.cube_laws.specs.Sums.{tabulate}
 use Rattle.cube_laws.specs.Extension.{dot, eq_points, weights, extension, fold_low, fold_all, bits_of, kron}
-use Rattle.cube_laws.specs.Batch.{zeros, batched, pair_sum, values_of, eq_sum}
-use Rattle.cube_laws.specs.Form.{Form, value, degree}
+use Rattle.batch_laws.specs.Batch.{zeros, batched, pair_sum, values_of, eq_sum}
+use Rattle.cube_laws.specs.Form.{Form, variable, value, degree}
 use Rattle.cube_laws.specs.SumClaim.{sum_at, AllLong}
 
 -- products of tables in disjoint variables, and parts of a table by bits in its point
@@ -53,9 +54,16 @@ pub record AreEqSums : Type 0 where
   pub final : (z r : List ℕ) (form : Form) (lists : List (List ℕ)) → length z ≡ length r → sum_at (eq_sum z form lists) r 0 ≡ mul (eq_points z r) (value form (map (λ f. extension f r) lists))
   pub degree_is : (z : List ℕ) (form : Form) (lists : List (List ℕ)) → degree (eq_sum z form lists).form ≡ degree form + 1
 
--- k draws, of which at most one number passes each where none passed before: at most k · q ^ (k - 1) vectors of k numbers below q pass.
--- The test tells whether draws so far pass
-abbrev pub ChainsAreCounted : Type 0
-ChainsAreCounted =
-    (q k : ℕ) (passes : List ℕ → Bool) → passes [] ≡ false → ((v : List ℕ) → length v < k → passes v ≡ false → AtMost 1 (λ r. passes (v ++ r ∷ []) ≡ true))
-    → AtMost (k * q ^ (k - 1)) (λ v. (length v ≡ k) × AllByRecursion (λ c. c < q) v × (passes v ≡ true))
+-- what is made from numbers of a level stays in the level
+pub record StayInLevel : Type 0 where
+  pub weights_fit : (i : ℕ) (z : List ℕ) → AllFit i z → AllFit i (weights z)
+  pub eq_fits : (i : ℕ) (x y : List ℕ) → AllFit i x → AllFit i y → Fits i (eq_points x y)
+  pub extension_fits : (i : ℕ) (table z : List ℕ) → AllFit i table → AllFit i z → Fits i (extension table z)
+  pub folds_fit : (i : ℕ) (rs table : List ℕ) → AllFit i rs → AllFit i table → AllFit i (fold_all rs table)
+  pub batch_fits : (i n a : ℕ) (ts : List (List ℕ)) → Fits i a → AllByRecursion (AllFit i) ts → AllFit i (batched n a ts)
+
+-- values worked out by hand: 4 · 3 = 12 and 4 · 5 = 13; the weights of 4 are 5 and 4, and 5 · 1 + 4 · 2 = 13
+pub record AreWorked : Type 0 where
+  pub batch_is : batched 2 4 ((1 ∷ 2 ∷ []) ∷ (3 ∷ 5 ∷ []) ∷ []) ≡ 13 ∷ 15 ∷ []
+  pub pair_is : sum_at (pair_sum (5 ∷ 4 ∷ []) (1 ∷ 2 ∷ [])) [] 1 ≡ 13
+  pub eq_sum_is : sum_at (eq_sum (4 ∷ []) (variable 0) ((1 ∷ 2 ∷ []) ∷ [])) [] 1 ≡ 13

@@ -1,5 +1,5 @@
 -- Tables and claims joined by the powers of one number.
--- Source: docs/LAWS.md, "cube_laws: tables over cubes".
+-- Source: docs/LAWS.md, "batch_laws: parts of tables, and many as one".
 use Rattle.std.specs.Prelude.{ℕ, List, [], ◌∷◌, map}
 use Rattle.tower_laws.specs.Tower.{mul}
 use Rattle.tower_laws.specs.Lists.{sums}

@@ -4,7 +4,7 @@ use Rattle.tower_laws.specs.Tower.{mul}
 use Rattle.counting_laws.specs.Counting.{AtMost}
 use Rattle.counting_laws.proofs.Bounds.{at_most_weaker}
 use Rattle.cube_laws.specs.Extension.{eq_points, extension, weights, fold_low, fold_all}
-use Rattle.cube_laws.specs.Batch.{zeros, values_of, eq_sum}
+use Rattle.batch_laws.specs.Batch.{zeros, values_of, eq_sum}
 use Rattle.cube_laws.specs.Form.{Form, constant, variable, plus, times, moved, value, degree}
 use Rattle.cube_laws.specs.SumClaim.{sum_at, AllLong}
 use Rattle.cube_laws.proofs.Coordinates.{fold_all_is, sum_at-all}

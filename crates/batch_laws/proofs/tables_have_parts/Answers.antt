@@ -1,6 +1,6 @@
 use Rattle.cube_laws.proofs.Kron.{get_or-kron, weights-joined, extension-kron}
-use Rattle.cube_laws.proofs.Parts.{extension_at, extension_part, dot_part, extension_every, fold_list}
-use Rattle.cube_laws.proofs.tables_have_parts.Goals as goal
+use Rattle.batch_laws.proofs.Parts.{extension_at, extension_part, dot_part, extension_every, fold_list}
+use Rattle.batch_laws.proofs.tables_have_parts.Goals as goal
 
 pub returns : goal.returns
 returns c = record {

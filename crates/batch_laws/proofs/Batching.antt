@@ -9,7 +9,7 @@ use Rattle.counting_laws.proofs.Bounds.{at_most_from, AllByRecursion-weaker}
 use Rattle.poly_laws.specs.Polynomial.{horner}
 use Rattle.poly_laws.proofs.RootBound.{zero_by_roots}
 use Rattle.cube_laws.specs.Extension.{dot, eq_points, extension, weights}
-use Rattle.cube_laws.specs.Batch.{zeros, batched, pair_sum}
+use Rattle.batch_laws.specs.Batch.{zeros, batched, pair_sum}
 use Rattle.cube_laws.specs.SumClaim.{sum_at, AllLong}
 use Rattle.cube_laws.proofs.Coordinates.{sum_at-all}
 use Rattle.cube_laws.proofs.Dots.{dot-comm, dot-sums, dot-scale, dot-zeros}
