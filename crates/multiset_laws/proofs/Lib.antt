@@ -1,3 +1,4 @@
 pub mod ProductBound
 pub mod CollapseBound
 pub mod Leaves
+pub mod Balances

@@ -1,2 +1,3 @@
 pub mod Fingerprint
+pub mod Balance
 pub mod Laws

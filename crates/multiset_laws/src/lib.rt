@@ -5,7 +5,7 @@
 
 #![tactic(auto)]
 
-ghost use Rattle.multiset_laws.specs.Laws.{CollapsesSeldomAgree, FingerprintsAgree, LeavesAreFingerprints, ProductsSeldomAgree};
+ghost use Rattle.multiset_laws.specs.Laws.{AreBalances, AreWorked, CollapsesSeldomAgree, FingerprintsAgree, LeavesAreFingerprints, ProductsSeldomAgree};
 
 /// Products over unequal multisets of numbers agree for few challenges.
 pub fn products_seldom_agree()
@@ -25,4 +25,14 @@ pub fn fingerprints_agree()
 /// A product of leaves takes only the rows that are there and selected.
 pub fn leaves_are_fingerprints()
     ensures { LeavesAreFingerprints }
+{}
+
+/// Several pairs of multisets of tuples at once, through both challenges.
+pub fn balances_are_counted()
+    ensures { AreBalances }
+{}
+
+/// A fingerprint and leaves, worked out by hand.
+pub fn worked_values()
+    ensures { AreWorked }
 {}
