@@ -1,5 +1,5 @@
 -- Numbers as 16 bytes, the lowest first, and back.
--- Source: docs/LAWS.md, "tower_field: bytes and lists".
+-- Source: docs/LAWS.md, "tower_field: elements as bytes".
 use Rattle.std.specs.Prelude.{◌≡◌, ◌<◌, ◌^◌, ℕ, List, length}
 use Rattle.std.specs.List.{AllByRecursion}
 use Rattle.std.specs.Int.{from_le_bytes, to_le_bytes, w128}
