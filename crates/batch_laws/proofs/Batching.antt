@@ -1,5 +1,5 @@
 -- Tables and claims joined by the powers of one number.
-use Rattle.std.proofs.Common.{◌≡◌, ℕ, zero, suc, ◌^◌, ◌-◌, List, [], ◌∷◌, map, max, length, get_or, bit_xor, refl, sym, ◌∙◌, ap, arith}
+use Rattle.std.proofs.Common.{◌≡◌, ℕ, zero, suc, ◌^◌, ◌-◌, ◌≤◌, List, [], ◌∷◌, map, max, length, get_or, bit_xor, refl, sym, ◌∙◌, ap, arith}
 use Rattle.std.specs.List.{AllByRecursion}
 use Rattle.std.proofs.lemmas.List.{length-map}
 use Rattle.tower_laws.specs.Tower.{mul}
@@ -9,8 +9,11 @@ use Rattle.counting_laws.proofs.Bounds.{at_most_from, AllByRecursion-weaker}
 use Rattle.poly_laws.specs.Polynomial.{horner}
 use Rattle.poly_laws.proofs.RootBound.{zero_by_roots}
 use Rattle.cube_laws.specs.Extension.{dot, eq_points, extension, weights}
-use Rattle.batch_laws.specs.Batch.{zeros, batched, pair_sum}
-use Rattle.cube_laws.specs.SumClaim.{sum_at, AllLong}
+use Rattle.batch_laws.specs.Batch.{zeros, batched, batch_form, pair_sum, values_of}
+use Rattle.tower_laws.specs.Lists.{sums}
+use Rattle.cube_laws.specs.Form.{Form, value, degree}
+use Rattle.cube_laws.proofs.Tabulate.{map-tabulate, sums-tabulate}
+use Rattle.cube_laws.specs.SumClaim.{sum_at, row, AllLong}
 use Rattle.cube_laws.proofs.Coordinates.{sum_at-all}
 use Rattle.cube_laws.proofs.Dots.{dot-comm, dot-sums, dot-scale, dot-zeros}
 use Rattle.cube_laws.proofs.EqPoints.{weights_extend}
@@ -47,6 +50,21 @@ length-batched n a (t ∷ ts) h =
     let r = length-batched n a ts h.1 in
     let l = h.0 in
     length-sums t (map (mul a) (batched n a ts)) ∙ (λ i. max (l i) (k i)) ∙ ap (max n) r ∙ omega arith
+
+-- ---- the batch of forms
+pub batch_form_value : (a : ℕ) (fs : List Form) (xs : List ℕ) → value (batch_form a fs) xs ≡ horner (map (λ f. value f xs) fs) a
+batch_form_value a [] xs = refl
+batch_form_value a (f ∷ fs) xs = ap (λ v. bit_xor (value f xs) (mul a v)) (batch_form_value a fs xs)
+
+pub batch_form_degree : (a d : ℕ) (fs : List Form) → AllByRecursion (λ f. degree f ≤ d) fs → degree (batch_form a fs) ≤ d
+batch_form_degree a d [] h = omega arith
+batch_form_degree a d (f ∷ fs) h = let l = h.0 in let r = batch_form_degree a d fs h.1 in omega arith
+
+pub batch_form_values : (n a : ℕ) (fs : List Form) (lists : List (List ℕ)) → values_of n (batch_form a fs) lists ≡ batched n a (map (λ f. values_of n f lists) fs)
+batch_form_values n a [] lists = refl
+batch_form_values n a (f ∷ fs) lists =
+    sym (sums-tabulate n (λ p. value f (row lists p)) (λ p. mul a (value (batch_form a fs) (row lists p))))
+    ∙ ap (sums (values_of n f lists)) (sym (map-tabulate n (mul a) (λ p. value (batch_form a fs) (row lists p))) ∙ ap (map (mul a)) (batch_form_values n a fs lists))
 
 -- ---- the sum of a product of two tables
 pub pair_sum_is : (n : ℕ) (f g : List ℕ) → length f ≡ 2 ^ n → length g ≡ 2 ^ n → sum_at (pair_sum f g) [] n ≡ dot f g

@@ -5,7 +5,7 @@ use Rattle.tower_laws.specs.Tower.{mul}
 use Rattle.tower_laws.specs.Lists.{sums}
 use Rattle.cube_laws.specs.Sums.{tabulate}
 use Rattle.cube_laws.specs.Extension.{weights}
-use Rattle.cube_laws.specs.Form.{Form, value, variable, times, moved}
+use Rattle.cube_laws.specs.Form.{Form, constant, variable, plus, times, value, moved}
 use Rattle.cube_laws.specs.SumClaim.{Sum, row}
 
 -- n zeros
@@ -16,6 +16,11 @@ zeros n = tabulate n (λ p. 0)
 abbrev pub batched : ℕ → ℕ → List (List ℕ) → List ℕ
 batched n a [] = zeros n
 batched n a (t ∷ ts) = sums t (map (mul a) (batched n a ts))
+
+-- the sum of a ^ j times form j
+abbrev pub batch_form : ℕ → List Form → Form
+batch_form a [] = constant 0
+batch_form a (f ∷ fs) = plus f (times (constant a) (batch_form a fs))
 
 -- the sum over a cube of the product of the extensions of two tables
 abbrev pub pair_sum : List ℕ → List ℕ → Sum

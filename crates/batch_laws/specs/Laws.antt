@@ -1,6 +1,6 @@
 -- The laws of parts and products of tables, of batches and of sums with eq, as statements.
 -- Source: docs/LAWS.md, "batch_laws: parts of tables, and many as one".
-use Rattle.std.specs.Prelude.{◌≡◌, ◌<◌, ◌+◌, ◌*◌, ◌-◌, ◌^◌, ℕ, List, [], ◌∷◌, ◌++◌, map, take, drop, length, get_or}
+use Rattle.std.specs.Prelude.{◌≡◌, ◌<◌, ◌≤◌, ◌+◌, ◌*◌, ◌-◌, ◌^◌, ℕ, List, [], ◌∷◌, ◌++◌, map, take, drop, length, get_or}
 use Rattle.std.specs.List.{AllByRecursion}
 use Rattle.tower_laws.specs.Tower.{Fits, mul}
 use Rattle.tower_laws.specs.Lists.{AllFit}
@@ -8,7 +8,7 @@ use Rattle.counting_laws.specs.Counting.{AtMost}
 use Rattle.poly_laws.specs.Polynomial.{horner}
 use Rattle.cube_laws.specs.Sums.{tabulate}
 use Rattle.cube_laws.specs.Extension.{dot, eq_points, weights, extension, fold_low, fold_all, bits_of, kron}
-use Rattle.batch_laws.specs.Batch.{zeros, batched, pair_sum, values_of, eq_sum}
+use Rattle.batch_laws.specs.Batch.{zeros, batched, batch_form, pair_sum, values_of, eq_sum}
 use Rattle.cube_laws.specs.Form.{Form, variable, value, degree}
 use Rattle.cube_laws.specs.SumClaim.{sum_at, AllLong}
 
@@ -42,6 +42,13 @@ pub record AreBatches : Type 0 where
   pub final : (n a : ℕ) (points : List (List ℕ)) (table r : List ℕ) → AllLong n points → length r ≡ n
       → sum_at (pair_sum (batched (2 ^ n) a (map weights points)) table) r 0 ≡ mul (horner (map (λ p. eq_points p r) points) a) (extension table r)
 
+-- many forms as one
+pub record AreBatchedForms : Type 0 where
+  pub value_is : (a : ℕ) (fs : List Form) (xs : List ℕ) → value (batch_form a fs) xs ≡ horner (map (λ f. value f xs) fs) a
+  pub degree_is : (a d : ℕ) (fs : List Form) → AllByRecursion (λ f. degree f ≤ d) fs → degree (batch_form a fs) ≤ d
+  -- their values are the batch of the forms' values
+  pub values_are : (n a : ℕ) (fs : List Form) (lists : List (List ℕ)) → values_of n (batch_form a fs) lists ≡ batched n a (map (λ f. values_of n f lists) fs)
+
 -- a list that is to be 0, one coordinate set after the other
 pub record AreZeros : Type 0 where
   pub coordinate : (n : ℕ) (ts : List ℕ) → length ts ≡ 2 * n → ¬ (ts ≡ zeros (2 * n)) → AtMost 1 (λ r. fold_low r ts ≡ zeros n)
@@ -65,5 +72,6 @@ pub record StayInLevel : Type 0 where
 -- values worked out by hand: 4 · 3 = 12 and 4 · 5 = 13; the weights of 4 are 5 and 4, and 5 · 1 + 4 · 2 = 13
 pub record AreWorked : Type 0 where
   pub batch_is : batched 2 4 ((1 ∷ 2 ∷ []) ∷ (3 ∷ 5 ∷ []) ∷ []) ≡ 13 ∷ 15 ∷ []
+  pub form_is : value (batch_form 4 (variable 0 ∷ variable 1 ∷ [])) (1 ∷ 3 ∷ []) ≡ 13
   pub pair_is : sum_at (pair_sum (5 ∷ 4 ∷ []) (1 ∷ 2 ∷ [])) [] 1 ≡ 13
   pub eq_sum_is : sum_at (eq_sum (4 ∷ []) (variable 0) ((1 ∷ 2 ∷ []) ∷ [])) [] 1 ≡ 13

@@ -5,16 +5,17 @@
 
 #![tactic(auto)]
 
-ghost use Rattle.batch_laws.specs.Laws.{AreBatches, AreEqSums, AreParts, AreWorked, AreZeros, StayInLevel};
+ghost use Rattle.batch_laws.specs.Laws.{AreBatchedForms, AreBatches, AreEqSums, AreParts, AreWorked, AreZeros, StayInLevel};
 
 /// Products of tables in disjoint variables, and parts of a table by bits in its point.
 pub fn tables_have_parts()
     ensures { AreParts }
 {}
 
-/// Many tables or claims as one, by the powers of a number.
+/// Many tables, claims or forms as one, by the powers of a number.
 pub fn batches_tell_tables()
-    ensures { AreBatches }
+    ensures tables { AreBatches }
+    ensures forms { AreBatchedForms }
 {}
 
 /// A list that is to be 0, coordinate by coordinate, and a form's values as a sum with eq.
