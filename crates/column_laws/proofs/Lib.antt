@@ -2,3 +2,4 @@ pub mod Subsets
 pub mod Powers
 pub mod Making
 pub mod Placing
+pub mod Fits

@@ -1,7 +1,8 @@
 -- The laws of columns, as statements.
 -- Source: docs/LAWS.md, "column_laws: columns as bits of one table".
 use Rattle.std.specs.Prelude.{◌≡◌, ◌<◌, ◌+◌, ◌*◌, ◌==◌, ◌^◌, cond, ℕ, List, [], ◌∷◌, ◌++◌, map, take, drop, length}
-use Rattle.tower_laws.specs.Tower.{mul}
+use Rattle.std.specs.List.{AllByRecursion}
+use Rattle.tower_laws.specs.Tower.{Fits, mul}
 use Rattle.tower_laws.specs.Lists.{AllFit}
 use Rattle.cube_laws.specs.Sums.{sum_to, product_to, tabulate}
 use Rattle.cube_laws.specs.Extension.{bit, dot, extension, bits_of}
@@ -23,6 +24,12 @@ pub record AreColumns : Type 0 where
   pub linear_column : (k0 : ℕ) (ks z : List ℕ) (cs : List (List ℕ)) → extension (linear (2 ^ length z) k0 ks cs) z ≡ linear_value k0 ks (map (λ c. extension c z) cs)
   pub projected_column : (k j : ℕ) (column z : List ℕ) → j < 2 ^ k → extension (projected k j (2 ^ length z) column) z ≡ extension column (bits_of k j ++ z)
   pub packed_column : (i k : ℕ) (column z : List ℕ) → extension (packed i k (2 ^ length z) column) z ≡ sum_to (2 ^ k) (λ u. mul (2 ^ (u * 2 ^ i)) (extension column (bits_of k u ++ z)))
+
+-- the levels of these columns
+pub record HaveLevels : Type 0 where
+  pub linear_fits : (i n k0 : ℕ) (ks : List ℕ) (cs : List (List ℕ)) → Fits i k0 → AllFit i ks → AllByRecursion (AllFit i) cs → AllFit i (linear n k0 ks cs)
+  pub projected_fits : (i k j n : ℕ) (column : List ℕ) → AllFit i column → AllFit i (projected k j n column)
+  pub packed_fits : (i k n : ℕ) (column : List ℕ) → AllFit i column → AllFit (i + k) (packed i k n column)
 
 -- a claim on a column as a sum over the table of all bits
 pub record ArePlaced : Type 0 where

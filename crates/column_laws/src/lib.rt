@@ -5,16 +5,17 @@
 
 #![tactic(auto)]
 
-ghost use Rattle.column_laws.specs.Laws.{AreBasis, AreColumns, ArePlaced, AreWorked};
+ghost use Rattle.column_laws.specs.Laws.{AreBasis, AreColumns, ArePlaced, AreWorked, HaveLevels};
 
 /// The powers of 2 are a basis of the numbers, and products of generators.
 pub fn powers_are_a_basis()
     ensures { AreBasis }
 {}
 
-/// The extensions of columns that are made from others.
+/// The extensions and the levels of columns that are made from others.
 pub fn columns_are_made()
-    ensures { AreColumns }
+    ensures columns { AreColumns }
+    ensures levels { HaveLevels }
 {}
 
 /// A claim on a column is a sum over the table of all bits.

@@ -4,7 +4,11 @@ use Rattle.std.proofs.lemmas.Bool.{cases_lt, lt-ltb}
 use Rattle.std.proofs.lemmas.Bool.Decides.{eqb_tells, nat_tests}
 use Rattle.std.proofs.lemmas.Nat.{mod-mul-add, pow_pos}
 use Rattle.tower_laws.specs.Tower.{mul}
+use Rattle.tower_laws.specs.Lists.{AllFit}
+use Rattle.tower_laws.proofs.Levels.{size_pos}
+use Rattle.tower_laws.proofs.Lists.{get_or_fits}
 use Rattle.tower_laws.proofs.Field.{identity, from_one, field_terms}
+use Rattle.batch_laws.proofs.Fits.{all_fit-tabulate}
 use Rattle.cube_laws.specs.Sums.{sum_to, tabulate}
 use Rattle.cube_laws.specs.Extension.{dot, extension, weights, bits_of}
 use Rattle.cube_laws.specs.SumClaim.{sum_at}
@@ -183,3 +187,13 @@ pub shift_last : (s : Shift) (b o : ℕ) (c low high x : List ℕ) → length x 
 shift_last s b o c low high x h =
     sum_at-all (shift_sum s b o c low high) x
     ∙ (λ i. mul (pairs_exchanged b (λ p q. flag (goes s b o q p)) x low i) (corners_at b c high x h i))
+
+-- ---- the level of a shifted column
+either_fits : (i : ℕ) (t : Bool) (a : ℕ) → a < 2 ^ (2 ^ i) → cond t a 0 < 2 ^ (2 ^ i)
+either_fits i true a h = h
+either_fits i false a h = size_pos i
+
+pub shifted_fits : (i : ℕ) (s : Shift) (b o n : ℕ) (c : List ℕ) → AllFit i c → AllFit i (shifted s b o n c)
+shifted_fits i shl b o n c h = all_fit-tabulate i n (shifted_value shl b o c) (λ x. either_fits i (leb o (x % 2 ^ b)) (get_or c (x - o) 0) (get_or_fits i (x - o) c h))
+shifted_fits i shr b o n c h = all_fit-tabulate i n (shifted_value shr b o c) (λ x. either_fits i (ltb (x % 2 ^ b + o) (2 ^ b)) (get_or c (x + o) 0) (get_or_fits i (x + o) c h))
+shifted_fits i rol b o n c h = all_fit-tabulate i n (shifted_value rol b o c) (λ x. get_or_fits i (x - x % 2 ^ b + (x % 2 ^ b + (2 ^ b - o % 2 ^ b)) % 2 ^ b) c h)

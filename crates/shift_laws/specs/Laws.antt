@@ -2,6 +2,7 @@
 -- Source: docs/LAWS.md, "shift_laws: shifts within blocks and steps".
 use Rattle.std.specs.Prelude.{◌≡◌, ◌≤◌, ◌==◌, ◌+◌, ◌*◌, ◌/◌, ◌%◌, ◌^◌, ℕ, suc, List, [], ◌∷◌, ◌++◌, length, bit_xor}
 use Rattle.tower_laws.specs.Tower.{mul}
+use Rattle.tower_laws.specs.Lists.{AllFit}
 use Rattle.cube_laws.specs.Extension.{extension}
 use Rattle.cube_laws.specs.SumClaim.{sum_at}
 use Rattle.shift_laws.specs.Shifts.{Shift, shl, shr, rol, flag, step_down, shifted, pairs_at, shift_at, shift_sum, carried, pick}
@@ -19,6 +20,10 @@ pub record AreSteps : Type 0 where
 pub record AreShifts : Type 0 where
   pub sum : (s : Shift) (b o : ℕ) (c low high : List ℕ) → length low ≡ b → extension (shifted s b o (2 ^ length high * 2 ^ b) c) (low ++ high) ≡ sum_at (shift_sum s b o c low high) [] b
   pub final : (s : Shift) (b o : ℕ) (c low high x : List ℕ) → length x ≡ b → sum_at (shift_sum s b o c low high) x 0 ≡ mul (shift_at s b o low x) (extension c (x ++ high))
+
+-- a shifted column has the level of the column
+abbrev pub ShiftsStayInLevel : Type 0
+ShiftsStayInLevel = (i : ℕ) (s : Shift) (b o n : ℕ) (c : List ℕ) → AllFit i c → AllFit i (shifted s b o n c)
 
 -- the table of a shift at two points, by a carry along the bits
 pub record AreCarries : Type 0 where

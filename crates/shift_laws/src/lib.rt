@@ -5,16 +5,17 @@
 
 #![tactic(auto)]
 
-ghost use Rattle.shift_laws.specs.Laws.{AreCarries, AreShifts, AreSteps, AreWorked};
+ghost use Rattle.shift_laws.specs.Laws.{AreCarries, AreShifts, AreSteps, AreWorked, ShiftsStayInLevel};
 
 /// The step at a point, by the point's last coordinate.
 pub fn steps_go_down()
     ensures { AreSteps }
 {}
 
-/// A value of a shifted column is a sum over the positions of a block.
+/// A value of a shifted column is a sum over the positions of a block, and of the column's level.
 pub fn shifts_are_sums()
-    ensures { AreShifts }
+    ensures sums { AreShifts }
+    ensures levels { ShiftsStayInLevel }
 {}
 
 /// The table of a shift at two points, by a carry along the bits.
