@@ -6,6 +6,7 @@ mod failed;
 mod mem_file;
 mod mem_shelf;
 mod mem_sink;
+mod no_memory;
 mod os_shelf;
 mod os_sink;
 mod putting;
@@ -18,12 +19,10 @@ mod tests;
 pub use failed::Failed;
 pub use mem_shelf::MemShelf;
 pub use mem_sink::MemSink;
+pub use no_memory::NoMemory;
 pub use os_shelf::OsShelf;
 pub use os_sink::OsSink;
 pub use putting::{WriteFault, put_whole};
 pub use reading::{WholeStop, read_whole};
 pub use shelf::Shelf;
 pub use sink::Sink;
-
-/// The error of a call that can fail by want of memory alone.
-pub type NoMemory = std::alloc::AllocError;

@@ -5,8 +5,8 @@ ghost use Rattle.std.specs.Str.{bytes_eq};
 ghost use Rattle.byte_ends.specs.Counts.{raised};
 ghost use Rattle.byte_ends.specs.MemFile.{FileState, bytes_in, TakesNothing, taken_count, with_bytes};
 
-use crate::NoMemory;
 use crate::counts::raise;
+use crate::no_memory::NoMemory;
 use std::alloc::Global;
 use std::marker::Model;
 

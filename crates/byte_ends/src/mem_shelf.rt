@@ -4,10 +4,10 @@ ghost use Rattle.byte_ends.specs.MemFile.{FileState, bytes_in, find_file, TakesN
 ghost use Rattle.byte_ends.specs.MemShelf.{MemShelfState, file_of, shelf_state, IsListed, ReadFails, CreateFails, AppendFails, given_count, with_file, called, read_faulted, write_faulted};
 ghost use Rattle.byte_ends.specs.Shelf.{bytes_of, SameFiles, SameReadFaults, SameFaults, NoCountFalls, ReadFailed, WriteFailed, ReadsOnly, Gives, Empties, Appends, Takes};
 
-use crate::NoMemory;
 use crate::counts::raise;
 use crate::failed::Failed;
 use crate::mem_file::{MemFile, place_of};
+use crate::no_memory::NoMemory;
 use crate::shelf::Shelf;
 use std::alloc::Global;
 use std::marker::Model;

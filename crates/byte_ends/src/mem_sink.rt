@@ -1,9 +1,9 @@
 ghost use Rattle.std.specs.Prelude.{◌≡◌, ℕ, ◌<◌, ◌≤◌, ◌↔◌, [], ◌++◌, length, take, vec_len, vec_capacity, IsErr, IfOk, OnOk, OnErr};
 ghost use Rattle.byte_ends.specs.MemSink.{MemSinkState, sink_state, PutFails, put_count, after_put, after_failed_put};
 
-use crate::NoMemory;
 use crate::counts::raise;
 use crate::failed::Failed;
+use crate::no_memory::NoMemory;
 use crate::sink::Sink;
 use std::alloc::Global;
 use std::marker::Model;

@@ -18,7 +18,7 @@ pub enum WholeStop {
 }
 
 /// Bytes asked of the shelf in one read.
-const PIECE: usize = 4096;
+const PIECE: usize = 65_536;
 
 /// Reads a whole file of at most `limit` bytes, in as many pieces as the shelf gives.
 pub fn read_whole<S: Shelf>(
@@ -36,8 +36,8 @@ pub fn read_whole<S: Shelf>(
     ensures reads_only { ReadsOnly (S.state shelf.old) (S.state shelf.new) }
 {
     let mut whole = Vec::new(alloc);
+    let mut piece = [0; PIECE];
     loop {
-        let mut piece = [0; PIECE];
         match shelf.read(name, whole.len() as u64, &mut piece) {
             Ok(0) => return Ok(whole),
             Ok(count) => {
