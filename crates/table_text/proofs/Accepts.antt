@@ -4,6 +4,7 @@ use Rattle.std.proofs.lemmas.List.{append-nil}
 use Rattle.std.proofs.lemmas.Option.{none-some, same_Some}
 use Rattle.std.specs.Prelude.{map, option_map, option_and_then}
 use Rattle.std.specs.List.{flat_map}
+use Rattle.table_text.specs.Bytes.{close_paren, times_sign, plus_sign, semicolon, close_brace}
 use Rattle.table_text.specs.Lexing.{Token, name, mark}
 use Rattle.table_text.specs.Grammar.{Sum, first_term, plus, Product, first_factor, times, Atom, constant, column, parens, ItemTree, column_item, zero_item, TableTree, FileTree, sum_tokens, product_tokens, atom_tokens, atom_expr, terms, factors, sum_of, product_of, type_word, item_tokens, table_tokens, file_tokens, item_of, table_of}
 use Rattle.table_text.specs.Machine.{level_of, back_in, innermost, body_at, state_at, step, run, start}
@@ -72,14 +73,14 @@ terms-parts (first_term p) = refl
 terms-parts (plus s p) = refl
 
 closes : (at : Place) (o : List Frame) (ts fs : List Expr) (s : Sum)
-    → step (behind at (o ++ frame ts fs ∷ []) (front_terms s) (last_factors s)) (mark 41) ≡ Some (behind at o ts (fs ++ atom_expr (parens s) ∷ []))
+    → step (behind at (o ++ frame ts fs ∷ []) (front_terms s) (last_factors s)) (mark close_paren) ≡ Some (behind at o ts (fs ++ atom_expr (parens s) ∷ []))
 closes at o ts fs s =
     let f = formula (o ++ frame ts fs ∷ []) (front_terms s) (last_factors s) in
     let into : Option Formula → Option State = λ g. option_map (λ b. state_at at.decls (stage.Table at.table b)) (option_map (λ h. body_at at.items (its.Operator at.zero h)) g) in
     ap (λ r. into (option_map (back_in (innermost f)) r)) (split_last-append o (frame ts fs))
     ∙ ap (λ ss. Some (behind at o ts (fs ++ sum_of ss ∷ []))) (terms-parts s)
 
-adds : (at : Place) (o : List Frame) (s : Sum) → step (behind at o (front_terms s) (last_factors s)) (mark 43) ≡ Some (before at o (terms s) [])
+adds : (at : Place) (o : List Frame) (s : Sum) → step (behind at o (front_terms s) (last_factors s)) (mark plus_sign) ≡ Some (before at o (terms s) [])
 adds at o s = ap (λ ts. Some (before at o ts [])) (terms-parts s)
 
 mutual
@@ -87,16 +88,16 @@ mutual
   atom_read at o ts fs (constant n) = one _ _ _ refl
   atom_read at o ts fs (column w) = one _ _ _ refl
   atom_read at o ts fs (parens s) = first _ (before at (o ++ frame ts fs ∷ []) [] []) _ _ _ refl
-      (joined _ _ _ (sum_tokens s) (mark 41 ∷ []) (sum_read at (o ++ frame ts fs ∷ []) s) (one _ _ _ (closes at o ts fs s)))
+      (joined _ _ _ (sum_tokens s) (mark close_paren ∷ []) (sum_read at (o ++ frame ts fs ∷ []) s) (one _ _ _ (closes at o ts fs s)))
 
   pub product_read : (at : Place) (o : List Frame) (ts : List Expr) (p : Product) → Leads (before at o ts []) (product_tokens p) (behind at o ts (factors p))
   product_read at o ts (first_factor a) = atom_read at o ts [] a
-  product_read at o ts (times p a) = joined _ _ _ (product_tokens p) (mark 42 ∷ atom_tokens a) (product_read at o ts p)
+  product_read at o ts (times p a) = joined _ _ _ (product_tokens p) (mark times_sign ∷ atom_tokens a) (product_read at o ts p)
       (first _ (before at o ts (factors p)) _ _ _ refl (atom_read at o ts (factors p) a))
 
   pub sum_read : (at : Place) (o : List Frame) (s : Sum) → Leads (before at o [] []) (sum_tokens s) (behind at o (front_terms s) (last_factors s))
   sum_read at o (first_term p) = product_read at o [] p
-  sum_read at o (plus s p) = joined _ _ _ (sum_tokens s) (mark 43 ∷ product_tokens p) (sum_read at o s)
+  sum_read at o (plus s p) = joined _ _ _ (sum_tokens s) (mark plus_sign ∷ product_tokens p) (sum_read at o s)
       (first _ (before at o (terms s) []) _ _ _ (adds at o s) (product_read at o (terms s) p))
 
 -- ---- items
@@ -120,7 +121,7 @@ type_step : (ds : List Decl) (t : List ℕ) (items : List Item) (w : List ℕ) (
 type_step ds t items w level h = ap (λ r. option_map (λ b. state_at ds (stage.Table t b)) (option_map (λ l. body_at items (its.ColumnEnd w l)) r)) (level_of-type_word level h)
 
 end_step : (ds : List Decl) (t : List ℕ) (items : List Item) (w : List ℕ) (s : Sum)
-    → step (table_at ds t items (its.Operator w (formula [] (front_terms s) (last_factors s)))) (mark 59) ≡ Some (table_at ds t (items ++ item.Zero w (sum_of (terms s)) ∷ []) its.Start)
+    → step (table_at ds t items (its.Operator w (formula [] (front_terms s) (last_factors s)))) (mark semicolon) ≡ Some (table_at ds t (items ++ item.Zero w (sum_of (terms s)) ∷ []) its.Start)
 end_step ds t items w s = ap (λ ts. Some (table_at ds t (items ++ item.Zero w (sum_of ts) ∷ []) its.Start)) (terms-parts s)
 
 item_read : (ds : List Decl) (t : List ℕ) (items : List Item) (i : ItemTree) → Leads (table_at ds t items its.Start) (item_tokens i) (table_at ds t (items ++ item_of i ∷ []) its.Start)
@@ -134,7 +135,7 @@ item_read ds t items (zero_item w s) =
     first _ (table_at ds t items its.ZeroName) _ _ _ refl
     (first _ (table_at ds t items (its.ZeroColon w)) _ _ _ refl
     (first _ (table_at ds t items (its.Operand w (formula [] [] []))) _ _ _ refl
-    (joined _ _ _ (sum_tokens s) (mark 59 ∷ []) (sum_read (record { decls = ds; table = t; items = items; zero = w }) [] s)
+    (joined _ _ _ (sum_tokens s) (mark semicolon ∷ []) (sum_read (record { decls = ds; table = t; items = items; zero = w }) [] s)
     (one _ _ _ (end_step ds t items w s)))))
 
 items_read : (ds : List Decl) (t : List ℕ) (items : List Item) (is : List ItemTree) → Leads (table_at ds t items its.Start) (flat_map item_tokens is) (table_at ds t (items ++ map item_of is) its.Start)
@@ -150,7 +151,7 @@ table_read ds t =
     first _ (state_at ds stage.TableName) _ _ _ refl
     (first _ (state_at ds (stage.TableBrace t.name)) _ _ _ refl
     (first _ (table_at ds t.name [] its.Start) _ _ _ refl
-    (joined _ _ _ (flat_map item_tokens t.items) (mark 125 ∷ []) (items_read ds t.name [] t.items)
+    (joined _ _ _ (flat_map item_tokens t.items) (mark close_brace ∷ []) (items_read ds t.name [] t.items)
     (one _ _ _ refl))))
 
 file_read : (ds : List Decl) (f : FileTree) → Leads (state_at ds stage.File) (file_tokens f) (state_at (ds ++ map table_of f) stage.File)

@@ -4,6 +4,7 @@ use Rattle.std.proofs.lemmas.List.{append-nil}
 use Rattle.std.proofs.lemmas.Grind.{flat_map-append}
 use Rattle.std.specs.Prelude.{codes}
 use Rattle.std.specs.List.{flat_map}
+use Rattle.table_text.specs.Bytes.{close_paren, colon, semicolon, open_brace, close_brace}
 use Rattle.table_text.specs.Lexing.{Token, name, reserved, number, mark}
 use Rattle.table_text.specs.Grammar.{Sum, first_term, Product, first_factor, constant, parens, ItemTree, column_item, zero_item, TableTree, FileTree, sum_tokens, product_tokens, type_word, item_tokens, table_tokens, file_tokens, Begins}
 use Rattle.table_text.proofs.Trees.{plus_tokens, times_tokens, with_product, with_atom, FrameTree, outer_tokens, Part, start, column_name, column_colon, column_type, column_end, zero_name, zero_colon, operand, operator, part_tokens, TablePart, file, table_name, table_brace, table, table_part_tokens, spelled, product_tokens-with_atom, sum_tokens-with_product}
@@ -18,7 +19,7 @@ pub close : (o : List FrameTree) (s : Option Sum) (p : Product) → SumFrom ((ou
 close [] s p = record { tree = with_product s p; more = []; is = sum_tokens-with_product s p ∙ sym (append-nil _) }
 close (f ∷ fs) s p =
     let r = close fs f.sum (with_atom f.product (parens (with_product s p))) in
-    record { tree = r.tree; more = mark 41 ∷ r.more; is = r.is ∙ simp (product_tokens-with_atom, sum_tokens-with_product, append_assoc) refl }
+    record { tree = r.tree; more = mark close_paren ∷ r.more; is = r.is ∙ simp (product_tokens-with_atom, sum_tokens-with_product, append_assoc) refl }
 
 pub close_operand : (o : List FrameTree) (s : Option Sum) (p : Option Product) → SumFrom ((outer_tokens o ++ plus_tokens s) ++ times_tokens p)
 close_operand o s p =
@@ -34,18 +35,18 @@ pub record ItemsFrom (tokens : List Token) : Type 0 where
 one_item : (i : ItemTree) (tokens more : List Token) → item_tokens i ≡ tokens ++ more → ItemsFrom tokens
 one_item i tokens more h = record { items = i ∷ []; more = more; is = append-nil _ ∙ h }
 
-zero_from : (w : List ℕ) (tokens : List Token) → SumFrom tokens → ItemsFrom (reserved (codes "zero") ∷ name w ∷ mark 58 ∷ tokens)
-zero_from w tokens r = one_item (zero_item w r.tree) _ (r.more ++ mark 59 ∷ [])
-    (ap (λ ts. reserved (codes "zero") ∷ name w ∷ mark 58 ∷ ts) (ap (λ ts. ts ++ mark 59 ∷ []) r.is ∙ append_assoc tokens r.more (mark 59 ∷ [])))
+zero_from : (w : List ℕ) (tokens : List Token) → SumFrom tokens → ItemsFrom (reserved (codes "zero") ∷ name w ∷ mark colon ∷ tokens)
+zero_from w tokens r = one_item (zero_item w r.tree) _ (r.more ++ mark semicolon ∷ [])
+    (ap (λ ts. reserved (codes "zero") ∷ name w ∷ mark colon ∷ ts) (ap (λ ts. ts ++ mark semicolon ∷ []) r.is ∙ append_assoc tokens r.more (mark semicolon ∷ [])))
 
 pub complete_part : (part : Part) → ItemsFrom (part_tokens part)
 complete_part start = record { items = []; more = []; is = refl }
-complete_part column_name = one_item (column_item [] 0 (lit≤ tt)) _ (name [] ∷ mark 58 ∷ name (type_word 0) ∷ mark 59 ∷ []) refl
-complete_part (column_colon w) = one_item (column_item w 0 (lit≤ tt)) _ (mark 58 ∷ name (type_word 0) ∷ mark 59 ∷ []) refl
-complete_part (column_type w) = one_item (column_item w 0 (lit≤ tt)) _ (name (type_word 0) ∷ mark 59 ∷ []) refl
-complete_part (column_end w level h) = one_item (column_item w level h) _ (mark 59 ∷ []) refl
-complete_part zero_name = one_item (zero_item [] (first_term (first_factor (constant 0)))) _ (name [] ∷ mark 58 ∷ number 0 ∷ mark 59 ∷ []) refl
-complete_part (zero_colon w) = one_item (zero_item w (first_term (first_factor (constant 0)))) _ (mark 58 ∷ number 0 ∷ mark 59 ∷ []) refl
+complete_part column_name = one_item (column_item [] 0 (lit≤ tt)) _ (name [] ∷ mark colon ∷ name (type_word 0) ∷ mark semicolon ∷ []) refl
+complete_part (column_colon w) = one_item (column_item w 0 (lit≤ tt)) _ (mark colon ∷ name (type_word 0) ∷ mark semicolon ∷ []) refl
+complete_part (column_type w) = one_item (column_item w 0 (lit≤ tt)) _ (name (type_word 0) ∷ mark semicolon ∷ []) refl
+complete_part (column_end w level h) = one_item (column_item w level h) _ (mark semicolon ∷ []) refl
+complete_part zero_name = one_item (zero_item [] (first_term (first_factor (constant 0)))) _ (name [] ∷ mark colon ∷ number 0 ∷ mark semicolon ∷ []) refl
+complete_part (zero_colon w) = one_item (zero_item w (first_term (first_factor (constant 0)))) _ (mark colon ∷ number 0 ∷ mark semicolon ∷ []) refl
 complete_part (operand w o s p) = zero_from w _ (close_operand o s p)
 complete_part (operator w o s p) = zero_from w _ (close o s p)
 
@@ -58,18 +59,18 @@ pub record TablesFrom (tokens : List Token) : Type 0 where
 abbrev empty_table : List ℕ → TableTree
 empty_table w = record { name = w; items = [] }
 
-table_from : (w : List ℕ) (items : List ItemTree) (tokens : List Token) → ItemsFrom tokens → TablesFrom (reserved (codes "table") ∷ name w ∷ mark 123 ∷ (flat_map item_tokens items ++ tokens))
+table_from : (w : List ℕ) (items : List ItemTree) (tokens : List Token) → ItemsFrom tokens → TablesFrom (reserved (codes "table") ∷ name w ∷ mark open_brace ∷ (flat_map item_tokens items ++ tokens))
 table_from w items tokens r = record {
   tables = record { name = w; items = items ++ r.items } ∷ [];
-  more = r.more ++ mark 125 ∷ [];
-  is = append-nil _ ∙ ap (λ ts. reserved (codes "table") ∷ name w ∷ mark 123 ∷ ts)
-      (ap (λ ts. ts ++ mark 125 ∷ []) (flat_map-append item_tokens items r.items ∙ ap (λ ts. flat_map item_tokens items ++ ts) r.is) ∙ simp append_assoc refl);
+  more = r.more ++ mark close_brace ∷ [];
+  is = append-nil _ ∙ ap (λ ts. reserved (codes "table") ∷ name w ∷ mark open_brace ∷ ts)
+      (ap (λ ts. ts ++ mark close_brace ∷ []) (flat_map-append item_tokens items r.items ∙ ap (λ ts. flat_map item_tokens items ++ ts) r.is) ∙ simp append_assoc refl);
 }
 
 complete_table : (part : TablePart) → TablesFrom (table_part_tokens part)
 complete_table file = record { tables = []; more = []; is = refl }
-complete_table table_name = record { tables = empty_table [] ∷ []; more = name [] ∷ mark 123 ∷ mark 125 ∷ []; is = refl }
-complete_table (table_brace w) = record { tables = empty_table w ∷ []; more = mark 123 ∷ mark 125 ∷ []; is = refl }
+complete_table table_name = record { tables = empty_table [] ∷ []; more = name [] ∷ mark open_brace ∷ mark close_brace ∷ []; is = refl }
+complete_table (table_brace w) = record { tables = empty_table w ∷ []; more = mark open_brace ∷ mark close_brace ∷ []; is = refl }
 complete_table (table w items part) = table_from w items (part_tokens part) (complete_part part)
 
 -- what is spelled begins a file

@@ -6,9 +6,11 @@ use Rattle.std.proofs.lemmas.List.{length-map}
 use Rattle.std.proofs.Math.Seq.{take-suc, take-length}
 use Rattle.std.proofs.lemmas.Option.{slice_get-get_or}
 use Rattle.std.proofs.lemmas.List.Sums.{sum_by-append}
+use Rattle.table_text.specs.Bytes.{close_paren, times_sign, plus_sign, colon, semicolon, open_brace, close_brace}
 use Rattle.table_text.specs.Lexing.{Token, name, reserved, mark, spots}
 use Rattle.table_text.specs.Grammar.{Sum, first_term, plus, Product, first_factor, times, Atom, constant, column, parens, sum_tokens, product_tokens, atom_tokens, ItemTree, column_item, zero_item, item_tokens, item_of, TableTree, table_tokens, table_of, FileTree, file_tokens}
-use Rattle.table_text.specs.Faults.{begins_declaration, max_declarations, IsTaken, AreTaken, IsTablesText}
+use Rattle.table_text.specs.Limits.{max_declarations}
+use Rattle.table_text.specs.Faults.{begins_declaration, IsTaken, AreTaken, IsTablesText}
 use Rattle.table_text.specs.Valid.{declarations}
 use Rattle.table_text.specs.declared.decl.Decl.{Decl}
 
@@ -23,22 +25,22 @@ begun-append xs ys = sum_by-append (λ x. cond (begins_declaration x) 1 0) xs ys
 mutual
   begun-sum : (s : Sum) → begun (sum_tokens s) ≡ 0
   begun-sum (first_term p) = begun-product p
-  begun-sum (plus s p) = begun-append (sum_tokens s) (mark 43 ∷ product_tokens p) ∙ omega (arith, begun-sum s, begun-product p)
+  begun-sum (plus s p) = begun-append (sum_tokens s) (mark plus_sign ∷ product_tokens p) ∙ omega (arith, begun-sum s, begun-product p)
 
   begun-product : (p : Product) → begun (product_tokens p) ≡ 0
   begun-product (first_factor a) = begun-atom a
-  begun-product (times p a) = begun-append (product_tokens p) (mark 42 ∷ atom_tokens a) ∙ omega (arith, begun-product p, begun-atom a)
+  begun-product (times p a) = begun-append (product_tokens p) (mark times_sign ∷ atom_tokens a) ∙ omega (arith, begun-product p, begun-atom a)
 
   begun-atom : (a : Atom) → begun (atom_tokens a) ≡ 0
   begun-atom (constant n) = refl
   begun-atom (column w) = refl
-  begun-atom (parens s) = begun-append (sum_tokens s) (mark 41 ∷ []) ∙ omega (arith, begun-sum s)
+  begun-atom (parens s) = begun-append (sum_tokens s) (mark close_paren ∷ []) ∙ omega (arith, begun-sum s)
 
 begun-item : (i : ItemTree) → begun (item_tokens i) ≡ 1
 begun-item (column_item w level h) = refl
 begun-item (zero_item w s) =
-    let head : begun (reserved (codes "zero") ∷ name w ∷ mark 58 ∷ sum_tokens s) ≡ 1 + begun (sum_tokens s) = begun-append (reserved (codes "zero") ∷ name w ∷ mark 58 ∷ []) (sum_tokens s) in
-    begun-append (reserved (codes "zero") ∷ name w ∷ mark 58 ∷ sum_tokens s) (mark 59 ∷ []) ∙ omega (arith, begun-sum s)
+    let head : begun (reserved (codes "zero") ∷ name w ∷ mark colon ∷ sum_tokens s) ≡ 1 + begun (sum_tokens s) = begun-append (reserved (codes "zero") ∷ name w ∷ mark colon ∷ []) (sum_tokens s) in
+    begun-append (reserved (codes "zero") ∷ name w ∷ mark colon ∷ sum_tokens s) (mark semicolon ∷ []) ∙ omega (arith, begun-sum s)
 
 begun-items : (items : List ItemTree) → begun (flat_map item_tokens items) ≡ length items
 begun-items [] = refl
@@ -46,9 +48,9 @@ begun-items (i ∷ items) = begun-append (item_tokens i) (flat_map item_tokens i
 
 begun-table : (t : TableTree) → begun (table_tokens t) ≡ 1 + length t.items
 begun-table t =
-    let head : begun (reserved (codes "table") ∷ name t.name ∷ mark 123 ∷ flat_map item_tokens t.items) ≡ 1 + begun (flat_map item_tokens t.items) =
-    begun-append (reserved (codes "table") ∷ name t.name ∷ mark 123 ∷ []) (flat_map item_tokens t.items) in
-    begun-append (reserved (codes "table") ∷ name t.name ∷ mark 123 ∷ flat_map item_tokens t.items) (mark 125 ∷ []) ∙ omega (arith, begun-items t.items)
+    let head : begun (reserved (codes "table") ∷ name t.name ∷ mark open_brace ∷ flat_map item_tokens t.items) ≡ 1 + begun (flat_map item_tokens t.items) =
+    begun-append (reserved (codes "table") ∷ name t.name ∷ mark open_brace ∷ []) (flat_map item_tokens t.items) in
+    begun-append (reserved (codes "table") ∷ name t.name ∷ mark open_brace ∷ flat_map item_tokens t.items) (mark close_brace ∷ []) ∙ omega (arith, begun-items t.items)
 
 begun-file : (f : FileTree) → begun (file_tokens f) ≡ declarations (map table_of f)
 begun-file [] = refl
@@ -76,7 +78,7 @@ few_taken tokens (suc n) within taken =
     few_at tokens n (mark 0) (omega arith) (few_taken tokens n (omega arith) (λ k below. taken k (omega arith))) (taken n (omega arith))
 
 -- a text has no more declarations than the limit
-pub few_declarations : (text : List ℕ) (decls : List Decl) → IsTablesText text decls → declarations decls ≤ 65535
+pub few_declarations : (text : List ℕ) (decls : List Decl) → IsTablesText text decls → declarations decls ≤ max_declarations
 few_declarations text decls t =
     let all : List Token = map (λ s. s.token) (spots text) in
     let n : length all ≡ length (spots text) = length-map (spots text) (λ s. s.token) in

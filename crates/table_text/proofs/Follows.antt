@@ -8,6 +8,7 @@ use Rattle.std.proofs.lemmas.Slice.Eq.{bytes_eq-Decides}
 use Rattle.std.specs.Prelude.{◌==◌, slice_index_or, map, codes, option_map, option_and_then}
 use Rattle.std.specs.List.{flat_map}
 use Rattle.std.specs.Str.{bytes_eq}
+use Rattle.table_text.specs.Bytes.{open_paren, close_paren, times_sign, plus_sign, colon, semicolon, open_brace, close_brace}
 use Rattle.table_text.specs.Lexing.{Token, name, reserved, number, mark, wrong}
 use Rattle.table_text.specs.Faults.{is_mark_of}
 use Rattle.table_text.specs.Grammar.{Sum, Product, Atom, constant, column, parens, ItemTree, column_item, zero_item, TableTree, FileTree, product_tokens, atom_tokens, atom_expr, factors, sum_of, product_of, type_word, type_words, item_tokens, table_tokens, file_tokens, item_of, table_of}
@@ -138,7 +139,7 @@ ends items part i t u b same spell shown = record {
 }
 
 abbrev zero_tokens : List ℕ → List Token → List Token
-zero_tokens w ts = reserved (codes "zero") ∷ name w ∷ mark 58 ∷ ts
+zero_tokens w ts = reserved (codes "zero") ∷ name w ∷ mark colon ∷ ts
 
 abbrev shown_items : List ItemTree → ItemStage → Body
 shown_items items s = body_at (map item_of items) s
@@ -158,8 +159,8 @@ atom_read items w o s p a t b one shown = stays items (operand w o s p) (operato
 
 -- a parenthesis opens
 opens : (items : List ItemTree) (w : List ℕ) (o : List FrameTree) (s : Option Sum) (p : Option Product) (t : Token) (b : Body)
-    → t ≡ mark 40 → shown_items items (its.Operand w (formula_of (record { sum = s; product = p } ∷ o) [] [])) ≡ b → FollowsBody items (operand w o s p) t b
-opens items w o s p t b same shown = stays items (operand w o s p) (operand w (record { sum = s; product = p } ∷ o) None None) t (mark 40) b same
+    → t ≡ mark open_paren → shown_items items (its.Operand w (formula_of (record { sum = s; product = p } ∷ o) [] [])) ≡ b → FollowsBody items (operand w o s p) t b
+opens items w o s p t b same shown = stays items (operand w o s p) (operand w (record { sum = s; product = p } ∷ o) None None) t (mark open_paren) b same
     (ap (zero_tokens w) (append-nil _ ∙ append-nil _)) shown
 
 operand_read : (items : List ItemTree) (w : List ℕ) (o : List FrameTree) (s : Option Sum) (p : Option Product) (t : Token) (b : Body)
@@ -169,31 +170,31 @@ operand_read items w o s p (reserved v) b e = absurd (none-some b e)
 operand_read items w o s p (number n) b e = atom_read items w o s p (constant n) (number n) b refl (same_Some _ _ e)
 operand_read items w o s p (mark c) b e =
     let m = mapped (body_at (map item_of items)) _ b e in
-    let h : ((c == 40) ≡ true) × (its.Operand w (formula_of (record { sum = s; product = p } ∷ o) [] []) ≡ m.value) = cond_some _ _ m.value m.from in
-    opens items w o s p (mark c) b (ap mark (eqb-true c 40 h.0)) (ap (body_at (map item_of items)) h.1 ∙ m.is)
+    let h : ((c == open_paren) ≡ true) × (its.Operand w (formula_of (record { sum = s; product = p } ∷ o) [] []) ≡ m.value) = cond_some _ _ m.value m.from in
+    opens items w o s p (mark c) b (ap mark (eqb-true c open_paren h.0)) (ap (body_at (map item_of items)) h.1 ∙ m.is)
 operand_read items w o s p (wrong kind) b e = absurd (none-some b e)
 
 -- behind a product: `*`, `+`, `)` and `;`
 times_read : (items : List ItemTree) (w : List ℕ) (o : List FrameTree) (s : Option Sum) (p : Product) (t : Token) (b : Body)
-    → t ≡ mark 42 → shown_items items (its.Operand w (formula_of o (plus_terms s) (factors p))) ≡ b → FollowsBody items (operator w o s p) t b
-times_read items w o s p t b same shown = stays items (operator w o s p) (operand w o s (Some p)) t (mark 42) b same
-    (ap (zero_tokens w) (sym (append_assoc (outer_tokens o ++ plus_tokens s) (product_tokens p) (mark 42 ∷ [])))) shown
+    → t ≡ mark times_sign → shown_items items (its.Operand w (formula_of o (plus_terms s) (factors p))) ≡ b → FollowsBody items (operator w o s p) t b
+times_read items w o s p t b same shown = stays items (operator w o s p) (operand w o s (Some p)) t (mark times_sign) b same
+    (ap (zero_tokens w) (sym (append_assoc (outer_tokens o ++ plus_tokens s) (product_tokens p) (mark times_sign ∷ [])))) shown
 
 plus_read : (items : List ItemTree) (w : List ℕ) (o : List FrameTree) (s : Option Sum) (p : Product) (t : Token) (b : Body)
-    → t ≡ mark 43 → shown_items items (its.Operand w (formula_of o (plus_terms s ++ product_of (factors p) ∷ []) [])) ≡ b → FollowsBody items (operator w o s p) t b
-plus_read items w o s p t b same shown = stays items (operator w o s p) (operand w o (Some (with_product s p)) None) t (mark 43) b same
+    → t ≡ mark plus_sign → shown_items items (its.Operand w (formula_of o (plus_terms s ++ product_of (factors p) ∷ []) [])) ≡ b → FollowsBody items (operator w o s p) t b
+plus_read items w o s p t b same shown = stays items (operator w o s p) (operand w o (Some (with_product s p)) None) t (mark plus_sign) b same
     (ap (zero_tokens w) (simp (append-nil, append_assoc, sum_tokens-with_product) refl))
     (ap (λ ts. shown_items items (its.Operand w (formula_of o ts []))) (terms-with_product s p) ∙ shown)
 
 closes_to : (items : List ItemTree) (w : List ℕ) (f : FrameTree) (fs : List FrameTree) (s : Option Sum) (p : Product) (t : Token) (b : Body)
-    → t ≡ mark 41 → shown_items items (its.Operator w (formula_of fs (plus_terms f.sum) (times_factors f.product ++ sum_of (plus_terms s ++ product_of (factors p) ∷ []) ∷ []))) ≡ b → FollowsBody items (operator w (f ∷ fs) s p) t b
-closes_to items w f fs s p t b same shown = stays items (operator w (f ∷ fs) s p) (operator w fs f.sum (with_atom f.product (parens (with_product s p)))) t (mark 41) b same
+    → t ≡ mark close_paren → shown_items items (its.Operator w (formula_of fs (plus_terms f.sum) (times_factors f.product ++ sum_of (plus_terms s ++ product_of (factors p) ∷ []) ∷ []))) ≡ b → FollowsBody items (operator w (f ∷ fs) s p) t b
+closes_to items w f fs s p t b same shown = stays items (operator w (f ∷ fs) s p) (operator w fs f.sum (with_atom f.product (parens (with_product s p)))) t (mark close_paren) b same
     (ap (zero_tokens w) (simp (append_assoc, product_tokens-with_atom, sum_tokens-with_product) refl))
     (ap (λ gs. shown_items items (its.Operator w (formula_of fs (plus_terms f.sum) gs)))
     (factors-with_atom f.product (parens (with_product s p)) ∙ ap (λ ts. times_factors f.product ++ sum_of ts ∷ []) (terms-with_product s p)) ∙ shown)
 
 close_read : (items : List ItemTree) (w : List ℕ) (o : List FrameTree) (s : Option Sum) (p : Product) (t : Token) (b : Body)
-    → t ≡ mark 41 → option_map (λ g. body_at (map item_of items) (its.Operator w g)) (closed (formula_of o (plus_terms s) (factors p))) ≡ Some b → FollowsBody items (operator w o s p) t b
+    → t ≡ mark close_paren → option_map (λ g. body_at (map item_of items) (its.Operator w g)) (closed (formula_of o (plus_terms s) (factors p))) ≡ Some b → FollowsBody items (operator w o s p) t b
 close_read items w [] s p t b same e = absurd (none-some b e)
 close_read items w (f ∷ fs) s p t b same e =
     let split : closed (formula_of (f ∷ fs) (plus_terms s) (factors p)) ≡ Some (back_in (innermost (formula_of (f ∷ fs) (plus_terms s) (factors p))) (outer_frames fs, frame_of f)) =
@@ -204,25 +205,25 @@ no_outer : (f : FrameTree) (fs : List FrameTree) → (length (outer_frames (f �
 no_outer f fs e = let h : length (outer_frames fs ++ frame_of f ∷ []) ≡ 0 = eqb-true _ 0 e in omega (arith, h, length-append (outer_frames fs) (frame_of f ∷ []))
 
 end_read : (items : List ItemTree) (w : List ℕ) (o : List FrameTree) (s : Option Sum) (p : Product) (t : Token) (b : Body)
-    → t ≡ mark 59 → (length (outer_frames o) == 0) ≡ true → shown_zero items w s p ≡ b → FollowsBody items (operator w o s p) t b
-end_read items w [] s p t b same none shown = ends items (operator w [] s p) (zero_item w (with_product s p)) t (mark 59) b same
-    (ap (zero_tokens w) (ap (λ ts. ts ++ mark 59 ∷ []) (sum_tokens-with_product s p)))
+    → t ≡ mark semicolon → (length (outer_frames o) == 0) ≡ true → shown_zero items w s p ≡ b → FollowsBody items (operator w o s p) t b
+end_read items w [] s p t b same none shown = ends items (operator w [] s p) (zero_item w (with_product s p)) t (mark semicolon) b same
+    (ap (zero_tokens w) (ap (λ ts. ts ++ mark semicolon ∷ []) (sum_tokens-with_product s p)))
     (ap (λ ts. body_at (map item_of items ++ item.Zero w (sum_of ts) ∷ []) its.Start) (terms-with_product s p) ∙ shown)
 end_read items w (f ∷ fs) s p t b same none shown = absurd (no_outer f fs none)
 
 operator_read : (items : List ItemTree) (w : List ℕ) (o : List FrameTree) (s : Option Sum) (p : Product) (t : Token) (b : Body)
     → operator_step (map item_of items) w (formula_of o (plus_terms s) (factors p)) t ≡ Some b → FollowsBody items (operator w o s p) t b
 operator_read items w o s p t b e =
-    elim (chosen (is_mark_of 42 t) _ _ (Some b) e) [
-      | inl h ↦ times_read items w o s p t b (mark_from 42 t h.0) (same_Some _ _ h.1)
-      | inr h ↦ elim (chosen (is_mark_of 43 t) _ _ (Some b) h.1) [
-        | inl k ↦ plus_read items w o s p t b (mark_from 43 t k.0) (same_Some _ _ k.1)
-        | inr k ↦ elim (chosen (is_mark_of 41 t) _ _ (Some b) k.1) [
-          | inl m ↦ close_read items w o s p t b (mark_from 41 t m.0) m.1
+    elim (chosen (is_mark_of times_sign t) _ _ (Some b) e) [
+      | inl h ↦ times_read items w o s p t b (mark_from times_sign t h.0) (same_Some _ _ h.1)
+      | inr h ↦ elim (chosen (is_mark_of plus_sign t) _ _ (Some b) h.1) [
+        | inl k ↦ plus_read items w o s p t b (mark_from plus_sign t k.0) (same_Some _ _ k.1)
+        | inr k ↦ elim (chosen (is_mark_of close_paren t) _ _ (Some b) k.1) [
+          | inl m ↦ close_read items w o s p t b (mark_from close_paren t m.0) m.1
           | inr m ↦
-              let r : ((is_mark_of 59 t && (length (outer_frames o) == 0)) ≡ true) × (shown_zero items w s p ≡ b) = cond_some _ _ b m.1 in
-              let q : (is_mark_of 59 t ≡ true) × ((length (outer_frames o) == 0) ≡ true) = both _ _ r.0 in
-              end_read items w o s p t b (mark_from 59 t q.0) q.1 r.1
+              let r : ((is_mark_of semicolon t && (length (outer_frames o) == 0)) ≡ true) × (shown_zero items w s p ≡ b) = cond_some _ _ b m.1 in
+              let q : (is_mark_of semicolon t ≡ true) × ((length (outer_frames o) == 0) ≡ true) = both _ _ r.0 in
+              end_read items w o s p t b (mark_from semicolon t q.0) q.1 r.1
         ]
       ]
     ]
@@ -257,17 +258,17 @@ type_read items w t b e =
     stays items (column_type w) (column_end w m.value l.fits) t (name (type_word m.value)) b (n.token ∙ ap name l.word) refl m.is
 
 column_read : (items : List ItemTree) (w : List ℕ) (level : ℕ) (h : level ≤ 7) (t : Token) (b : Body)
-    → cond (is_mark_of 59 t) (Some (body_at (map item_of items ++ item.Column w level 0 ∷ []) its.Start)) None ≡ Some b → FollowsBody items (column_end w level h) t b
-column_read items w level h t b e = let m = marked 59 _ b t e in ends items (column_end w level h) (column_item w level h) t (mark 59) b m.0 refl m.1
+    → cond (is_mark_of semicolon t) (Some (body_at (map item_of items ++ item.Column w level 0 ∷ []) its.Start)) None ≡ Some b → FollowsBody items (column_end w level h) t b
+column_read items w level h t b e = let m = marked semicolon _ b t e in ends items (column_end w level h) (column_item w level h) t (mark semicolon) b m.0 refl m.1
 
 pub follows_body : (items : List ItemTree) (part : Part) (t : Token) (b : Body) → body_step (map item_of items) (stage_of part) t ≡ Some b → FollowsBody items part t b
 follows_body items start t b e = start_read items t b e
 follows_body items column_name t b e = name_read items column_name its.ColumnColon column_colon t b (λ w. refl) (λ w. refl) e
-follows_body items (column_colon w) t b e = mark_read items (column_colon w) (column_type w) 58 t b refl e
+follows_body items (column_colon w) t b e = mark_read items (column_colon w) (column_type w) colon t b refl e
 follows_body items (column_type w) t b e = type_read items w t b e
 follows_body items (column_end w level h) t b e = column_read items w level h t b e
 follows_body items zero_name t b e = name_read items zero_name its.ZeroColon zero_colon t b (λ w. refl) (λ w. refl) e
-follows_body items (zero_colon w) t b e = mark_read items (zero_colon w) (operand w [] None None) 58 t b refl e
+follows_body items (zero_colon w) t b e = mark_read items (zero_colon w) (operand w [] None None) colon t b refl e
 follows_body items (operand w o s p) t b e = operand_read items w o s p t b e
 follows_body items (operator w o s p) t b e = operator_read items w o s p t b e
 
@@ -291,13 +292,13 @@ moves tables part next t u v same spell shown = record {
 abbrev table_tree : List ℕ → List ItemTree → TableTree
 table_tree w items = record { name = w; items = items }
 
-table_ends : (tables : FileTree) (w : List ℕ) (items : List ItemTree) (t : Token) (v : State) → t ≡ mark 125 → state_at (map table_of tables ++ decl.Table w (map item_of items) ∷ []) (table_stage file) ≡ v → Follows tables (table w items start) t v
+table_ends : (tables : FileTree) (w : List ℕ) (items : List ItemTree) (t : Token) (v : State) → t ≡ mark close_brace → state_at (map table_of tables ++ decl.Table w (map item_of items) ∷ []) (table_stage file) ≡ v → Follows tables (table w items start) t v
 table_ends tables w items t v same shown = record {
   tables' = tables ++ table_tree w items ∷ [];
   part' = file;
   shown = ap (λ ds. state_at ds (table_stage file)) (map-append table_of tables (table_tree w items ∷ [])) ∙ shown;
   spells = append-nil _ ∙ flat_map-append table_tokens tables (table_tree w items ∷ [])
-      ∙ ap (λ ts. file_tokens tables ++ ts) (append-nil _ ∙ ap (λ ts. reserved (codes "table") ∷ name w ∷ mark 123 ∷ ts) (ap (λ ts. ts ++ mark 125 ∷ []) (sym (append-nil (flat_map item_tokens items))))
+      ∙ ap (λ ts. file_tokens tables ++ ts) (append-nil _ ∙ ap (λ ts. reserved (codes "table") ∷ name w ∷ mark open_brace ∷ ts) (ap (λ ts. ts ++ mark close_brace ∷ []) (sym (append-nil (flat_map item_tokens items))))
       ∙ ap (λ x. table_part_tokens (table w items start) ++ x ∷ []) (sym same))
       ∙ sym (append_assoc (file_tokens tables) (table_part_tokens (table w items start)) (t ∷ []));
 }
@@ -308,7 +309,7 @@ inside tables w items part t v e =
     let m = mapped (λ b. state_at (map table_of tables) (stage.Table w b)) _ v e in
     let r = follows_body items part t m.value m.from in
     moves tables (table w items part) (table w r.items' r.part') t t v refl
-    (ap (λ ts. reserved (codes "table") ∷ name w ∷ mark 123 ∷ ts) r.spelled)
+    (ap (λ ts. reserved (codes "table") ∷ name w ∷ mark open_brace ∷ ts) r.spelled)
     (ap (λ b. state_at (map table_of tables) (stage.Table w b)) r.shown ∙ m.is)
 
 start_only : (part : Part) → is_start (stage_of part) ≡ true → part ≡ start
@@ -325,10 +326,10 @@ start_only (operator w o s p) e = cc
 table_read : (tables : FileTree) (w : List ℕ) (items : List ItemTree) (part : Part) (t : Token) (v : State)
     → stage_step (map table_of tables) (table_stage (table w items part)) t ≡ Some v → Follows tables (table w items part) t v
 table_read tables w items part t v e =
-    elim (chosen (is_mark_of 125 t && is_start (stage_of part)) _ _ (Some v) e) [
+    elim (chosen (is_mark_of close_brace t && is_start (stage_of part)) _ _ (Some v) e) [
       | inl h ↦
-          let q : (is_mark_of 125 t ≡ true) × (is_start (stage_of part) ≡ true) = both _ _ h.0 in
-          subst (λ (p : Part). Follows tables (table w items p) t v) (sym (start_only part q.1)) (table_ends tables w items t v (mark_from 125 t q.0) (same_Some _ _ h.1))
+          let q : (is_mark_of close_brace t ≡ true) × (is_start (stage_of part) ≡ true) = both _ _ h.0 in
+          subst (λ (p : Part). Follows tables (table w items p) t v) (sym (start_only part q.1)) (table_ends tables w items t v (mark_from close_brace t q.0) (same_Some _ _ h.1))
       | inr h ↦ inside tables w items part t v h.1
     ]
 
@@ -339,5 +340,5 @@ follows tables file t v e =
 follows tables table_name t v e =
     let n = mapped (λ w. state_at (map table_of tables) (stage.TableBrace w)) (name_of t) v e in
     moves tables table_name (table_brace n.value) t (name n.value) v (name_from t n.value n.from) refl n.is
-follows tables (table_brace w) t v e = let m = marked 123 _ v t e in moves tables (table_brace w) (table w [] start) t (mark 123) v m.0 refl m.1
+follows tables (table_brace w) t v e = let m = marked open_brace _ v t e in moves tables (table_brace w) (table w [] start) t (mark open_brace) v m.0 refl m.1
 follows tables (table w items part) t v e = table_read tables w items part t v e

@@ -5,9 +5,11 @@ use Rattle.std.proofs.lemmas.List.Sums.{sum_by-append}
 use Rattle.std.proofs.lemmas.Option.{none-some, same_Some}
 use Rattle.std.proofs.lemmas.Bool.{leb-true, leb-false}
 use Rattle.std.specs.Prelude.{nat_le, map, count_by, option_and_then, MatchOption}
+use Rattle.table_text.specs.Bytes.{open_paren, close_paren}
 use Rattle.table_text.specs.Lexing.{Token}
 use Rattle.table_text.specs.Grammar.{FileTree, file_tokens, table_of, IsFile, Begins}
-use Rattle.table_text.specs.Faults.{own_fault, is_mark_of, begins_declaration, open_after, max_open, max_declarations, IsTaken, GrammarRefuses, IsRefused}
+use Rattle.table_text.specs.Limits.{max_open, max_declarations}
+use Rattle.table_text.specs.Faults.{own_fault, is_mark_of, begins_declaration, open_after, IsTaken, GrammarRefuses, IsRefused}
 use Rattle.table_text.specs.Machine.{step, run, start, state_at, is_file_stage}
 use Rattle.table_text.specs.Reading.{one_if, progress_after, limit_fault, limited, allowed, sound, taken, begin}
 use Rattle.table_text.specs.declared.decl.Decl.{Decl}
@@ -88,8 +90,8 @@ only_file tokens ds es f g = ap (λ (u : State). u.decls) (same_Some (state_at d
 -- these tokens were read, and counted
 pub record IsProgress (before : List Token) (p : Progress) : Type 0 where
   pub read : HasRead before p.state
-  pub opened : p.opened ≡ count_by (is_mark_of 40) before
-  pub closed : p.closed ≡ count_by (is_mark_of 41) before
+  pub opened : p.opened ≡ count_by (is_mark_of open_paren) before
+  pub closed : p.closed ≡ count_by (is_mark_of close_paren) before
   pub begun : p.begun ≡ count_by begins_declaration before
 
 pub is_begin : IsProgress [] begin
@@ -104,13 +106,13 @@ count-one test n before t h =
 is_progress_after : (before : List Token) (p : Progress) (t : Token) (v : State) → IsProgress before p → step p.state t ≡ Some v → IsProgress (before ++ t ∷ []) (progress_after p t v)
 is_progress_after before p t v h e = record {
   read = has_read_one before p.state v t h.read e;
-  opened = count-one (is_mark_of 40) p.opened before t h.opened;
-  closed = count-one (is_mark_of 41) p.closed before t h.closed;
+  opened = count-one (is_mark_of open_paren) p.opened before t h.opened;
+  closed = count-one (is_mark_of close_paren) p.closed before t h.closed;
   begun = count-one begins_declaration p.begun before t h.begun;
 }
 
 open_is : (before : List Token) (p : Progress) → IsProgress before p → p.opened - p.closed ≡ open_after before
-open_is before p h = ap (λ n. n - p.closed) h.opened ∙ ap (λ n. count_by (is_mark_of 40) before - n) h.closed
+open_is before p h = ap (λ n. n - p.closed) h.opened ∙ ap (λ n. count_by (is_mark_of open_paren) before - n) h.closed
 
 -- what is right about an answer after a token
 abbrev pub Verdict : List Token → ℕ → Token → Result Progress TextFault → Type 0
@@ -133,11 +135,11 @@ judged_limits before p place t v h own e =
     let next = is_progress_after before p t v h e in
     let may : Begins (before ++ t ∷ []) = begins (before ++ t ∷ []) v next.read in
     let depth : p.opened - p.closed ≡ open_after before = open_is before p h in
-    let deep = is_mark_of 40 t && nat_le max_open (p.opened - p.closed) in
+    let deep = is_mark_of open_paren t && nat_le max_open (p.opened - p.closed) in
     let many = begins_declaration t && nat_le max_declarations p.begun in
     elim deep as (λ b. deep ≡ b → Verdict before place t (limited p place t v (cond b (Some TooDeep) (cond many (Some TooMany) None)))) [
       | true ↦ λ d.
-          let q : (is_mark_of 40 t ≡ true) × (nat_le max_open (p.opened - p.closed) ≡ true) = both _ _ d in
+          let q : (is_mark_of open_paren t ≡ true) × (nat_le max_open (p.opened - p.closed) ≡ true) = both _ _ d in
           (refl, refused_by_grammar before t TooDeep own (may, q.0, subst (λ n. max_open ≤ n) depth (leb-true max_open (p.opened - p.closed) q.1)))
       | false ↦ λ d. elim many as (λ b. many ≡ b → Verdict before place t (limited p place t v (cond b (Some TooMany) None))) [
         | true ↦ λ m.
@@ -147,7 +149,7 @@ judged_limits before p place t v h own e =
           record {
             sound = own;
             allowed = may;
-            shallow = λ x. subst (λ n. n < max_open) depth (not_both (is_mark_of 40 t) max_open (p.opened - p.closed) d x);
+            shallow = λ x. subst (λ n. n < max_open) depth (not_both (is_mark_of open_paren t) max_open (p.opened - p.closed) d x);
             few = λ x. subst (λ n. n < max_declarations) h.begun (not_both (begins_declaration t) max_declarations p.begun m x);
           },
           next,

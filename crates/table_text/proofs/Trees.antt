@@ -2,6 +2,7 @@
 use Rattle.std.proofs.Common.{◌≡◌, ℕ, ◌≤◌, List, [], ◌∷◌, ◌++◌, Option, Some, None, refl, sym, append_assoc}
 use Rattle.std.specs.Prelude.{map, codes}
 use Rattle.std.specs.List.{flat_map}
+use Rattle.table_text.specs.Bytes.{open_paren, times_sign, plus_sign, colon, open_brace}
 use Rattle.table_text.specs.Lexing.{Token, name, reserved, mark}
 use Rattle.table_text.specs.Grammar.{Sum, first_term, plus, Product, first_factor, times, Atom, ItemTree, FileTree, sum_tokens, product_tokens, atom_tokens, type_word, item_tokens, file_tokens, terms, factors, atom_expr, product_of, item_of, table_of}
 use Rattle.table_text.specs.Machine.{body_at, state_at}
@@ -16,11 +17,11 @@ use Rattle.table_text.specs.declared.state.State.{State}
 -- a sum before a `+`, if there is one, and a product before a `*`
 abbrev pub plus_tokens : Option Sum → List Token
 plus_tokens None = []
-plus_tokens (Some s) = sum_tokens s ++ mark 43 ∷ []
+plus_tokens (Some s) = sum_tokens s ++ mark plus_sign ∷ []
 
 abbrev pub times_tokens : Option Product → List Token
 times_tokens None = []
-times_tokens (Some p) = product_tokens p ++ mark 42 ∷ []
+times_tokens (Some p) = product_tokens p ++ mark times_sign ∷ []
 
 abbrev pub plus_terms : Option Sum → List Expr
 plus_terms None = []
@@ -45,7 +46,7 @@ pub record FrameTree : Type 0 where
 -- the sums around open parentheses, the innermost first
 abbrev pub outer_tokens : List FrameTree → List Token
 outer_tokens [] = []
-outer_tokens (f ∷ fs) = ((outer_tokens fs ++ plus_tokens f.sum) ++ times_tokens f.product) ++ mark 40 ∷ []
+outer_tokens (f ∷ fs) = ((outer_tokens fs ++ plus_tokens f.sum) ++ times_tokens f.product) ++ mark open_paren ∷ []
 
 abbrev pub frame_of : FrameTree → Frame
 frame_of f = record { terms = plus_terms f.sum; factors = times_factors f.product }
@@ -80,12 +81,12 @@ abbrev pub part_tokens : Part → List Token
 part_tokens start = []
 part_tokens column_name = reserved (codes "column") ∷ []
 part_tokens (column_colon w) = reserved (codes "column") ∷ name w ∷ []
-part_tokens (column_type w) = reserved (codes "column") ∷ name w ∷ mark 58 ∷ []
-part_tokens (column_end w level _) = reserved (codes "column") ∷ name w ∷ mark 58 ∷ name (type_word level) ∷ []
+part_tokens (column_type w) = reserved (codes "column") ∷ name w ∷ mark colon ∷ []
+part_tokens (column_end w level _) = reserved (codes "column") ∷ name w ∷ mark colon ∷ name (type_word level) ∷ []
 part_tokens zero_name = reserved (codes "zero") ∷ []
 part_tokens (zero_colon w) = reserved (codes "zero") ∷ name w ∷ []
-part_tokens (operand w o s p) = reserved (codes "zero") ∷ name w ∷ mark 58 ∷ ((outer_tokens o ++ plus_tokens s) ++ times_tokens p)
-part_tokens (operator w o s p) = reserved (codes "zero") ∷ name w ∷ mark 58 ∷ ((outer_tokens o ++ plus_tokens s) ++ product_tokens p)
+part_tokens (operand w o s p) = reserved (codes "zero") ∷ name w ∷ mark colon ∷ ((outer_tokens o ++ plus_tokens s) ++ times_tokens p)
+part_tokens (operator w o s p) = reserved (codes "zero") ∷ name w ∷ mark colon ∷ ((outer_tokens o ++ plus_tokens s) ++ product_tokens p)
 
 -- items and a part of one
 abbrev pub items_tokens : List ItemTree → Part → List Token
@@ -107,7 +108,7 @@ abbrev pub table_part_tokens : TablePart → List Token
 table_part_tokens file = []
 table_part_tokens table_name = reserved (codes "table") ∷ []
 table_part_tokens (table_brace w) = reserved (codes "table") ∷ name w ∷ []
-table_part_tokens (table w items part) = reserved (codes "table") ∷ name w ∷ mark 123 ∷ items_tokens items part
+table_part_tokens (table w items part) = reserved (codes "table") ∷ name w ∷ mark open_brace ∷ items_tokens items part
 
 abbrev pub spelled : FileTree → TablePart → List Token
 spelled tables part = file_tokens tables ++ table_part_tokens part
@@ -119,11 +120,11 @@ state_of tables part = state_at (map table_of tables) (table_stage part)
 
 pub product_tokens-with_atom : (p : Option Product) (a : Atom) → product_tokens (with_atom p a) ≡ times_tokens p ++ atom_tokens a
 product_tokens-with_atom None a = refl
-product_tokens-with_atom (Some p) a = sym (append_assoc (product_tokens p) (mark 42 ∷ []) (atom_tokens a))
+product_tokens-with_atom (Some p) a = sym (append_assoc (product_tokens p) (mark times_sign ∷ []) (atom_tokens a))
 
 pub sum_tokens-with_product : (s : Option Sum) (p : Product) → sum_tokens (with_product s p) ≡ plus_tokens s ++ product_tokens p
 sum_tokens-with_product None p = refl
-sum_tokens-with_product (Some s) p = sym (append_assoc (sum_tokens s) (mark 43 ∷ []) (product_tokens p))
+sum_tokens-with_product (Some s) p = sym (append_assoc (sum_tokens s) (mark plus_sign ∷ []) (product_tokens p))
 
 pub factors-with_atom : (p : Option Product) (a : Atom) → factors (with_atom p a) ≡ times_factors p ++ atom_expr a ∷ []
 factors-with_atom None a = refl

@@ -5,10 +5,11 @@ use Rattle.std.proofs.lemmas.Option.{slice_get-map, slice_get_within, slice_get_
 use Rattle.std.proofs.lemmas.Bool.{cases_order}
 use Rattle.std.proofs.Math.Seq.{take-append_seam}
 use Rattle.std.specs.Prelude.{map, not, position, slice_get, option_map, MatchOption}
-use Rattle.table_text.specs.Bytes.{is_text}
+use Rattle.table_text.specs.Bytes.{is_text, open_paren}
 use Rattle.table_text.specs.Lexing.{Token, name, reserved, number, mark, wrong, Spot, spots}
 use Rattle.table_text.specs.Grammar.{IsFile}
-use Rattle.table_text.specs.Faults.{own_fault, is_mark_of, begins_declaration, open_after, begun_in, max_open, max_declarations, IsTaken, GrammarRefuses, IsRefused, AreTaken, IsTokenFault, IsFirstFault, IsTablesText}
+use Rattle.table_text.specs.Limits.{max_open, max_declarations}
+use Rattle.table_text.specs.Faults.{own_fault, is_mark_of, begins_declaration, open_after, begun_in, IsTaken, GrammarRefuses, IsRefused, AreTaken, IsTokenFault, IsFirstFault, IsTablesText}
 use Rattle.table_text.specs.Machine.{is_file_stage}
 use Rattle.table_text.specs.Reading.{taken as taken_on, then_read, fault_at, finished, begin, reading_from, reading_at, reading}
 use Rattle.table_text.specs.declared.decl.Decl.{Decl}
@@ -58,7 +59,7 @@ taken_not_refused before t kind a r = by_kind kind (subst (λ o. MatchOption o (
     by_kind NameTooLong g = g
     by_kind NotBuilt g = g
 
-no_mark_begins : (t : Token) → is_mark_of 40 t ≡ true → begins_declaration t ≡ true → ⊥
+no_mark_begins : (t : Token) → is_mark_of open_paren t ≡ true → begins_declaration t ≡ true → ⊥
 no_mark_begins (name w) a b = cc
 no_mark_begins (reserved w) a b = cc
 no_mark_begins (number n) a b = cc

@@ -26,9 +26,39 @@ is_word_byte b = is_letter b || is_digit b || b == 95
 abbrev pub is_hex_digit : ℕ → Bool
 is_hex_digit b = is_digit b || is_between 65 70 b || is_between 97 102 b
 
--- one of : ; , ( ) { } = + *
+-- the marks
+abbrev pub colon : ℕ
+colon = 58
+
+abbrev pub semicolon : ℕ
+semicolon = 59
+
+abbrev pub comma : ℕ
+comma = 44
+
+abbrev pub open_paren : ℕ
+open_paren = 40
+
+abbrev pub close_paren : ℕ
+close_paren = 41
+
+abbrev pub open_brace : ℕ
+open_brace = 123
+
+abbrev pub close_brace : ℕ
+close_brace = 125
+
+abbrev pub equals_sign : ℕ
+equals_sign = 61
+
+abbrev pub plus_sign : ℕ
+plus_sign = 43
+
+abbrev pub times_sign : ℕ
+times_sign = 42
+
 abbrev pub is_mark : ℕ → Bool
-is_mark b = b == 58 || b == 59 || b == 44 || b == 40 || b == 41 || b == 123 || b == 125 || b == 61 || b == 43 || b == 42
+is_mark b = b == colon || b == semicolon || b == comma || b == open_paren || b == close_paren || b == open_brace || b == close_brace || b == equals_sign || b == plus_sign || b == times_sign
 
 -- what a digit of either case counts
 abbrev pub digit_value : ℕ → ℕ

@@ -3,7 +3,8 @@
 use Rattle.std.specs.Prelude.{◌≡◌, ℕ, ◌-◌, ◌<◌, ◌≤◌, not, ◌==◌, if◌then◌else◌, List, [], ◌∷◌, ◌++◌, length, take, map, position, count_by, slice_get, codes, Bool, true, false, Option, Some, None, MatchOption}
 use Rattle.std.specs.List.{list_any}
 use Rattle.std.specs.Str.{bytes_eq}
-use Rattle.table_text.specs.Bytes.{is_text}
+use Rattle.table_text.specs.Bytes.{is_text, open_paren, close_paren}
+use Rattle.table_text.specs.Limits.{max_open, max_declarations}
 use Rattle.table_text.specs.Lexing.{Token, name, reserved, number, mark, wrong, Spot, spots}
 use Rattle.table_text.specs.Grammar.{IsFile, Begins}
 use Rattle.table_text.specs.declared.decl.Decl.{Decl}
@@ -43,29 +44,23 @@ begins_declaration (wrong kind) = false
 
 -- how many parentheses are open after these tokens
 abbrev pub open_after : List Token → ℕ
-open_after tokens = count_by (is_mark_of 40) tokens - count_by (is_mark_of 41) tokens
+open_after tokens = count_by (is_mark_of open_paren) tokens - count_by (is_mark_of close_paren) tokens
 
 -- how many declarations begin with these tokens
 abbrev pub begun_in : List Token → ℕ
 begun_in tokens = count_by begins_declaration tokens
 
-abbrev pub max_open : ℕ
-max_open = 32
-
-abbrev pub max_declarations : ℕ
-max_declarations = 65535
-
 -- a token that may stand after these
 pub record IsTaken (before : List Token) (token : Token) : Type 0 where
   pub sound : own_fault token ≡ None
   pub allowed : Begins (before ++ token ∷ [])
-  pub shallow : is_mark_of 40 token ≡ true → open_after before < max_open
+  pub shallow : is_mark_of open_paren token ≡ true → open_after before < max_open
   pub few : begins_declaration token ≡ true → begun_in before < max_declarations
 
 -- what the grammar and its limits have against a token after these
 abbrev pub GrammarRefuses : List Token → Token → TextKind → Type 0
 GrammarRefuses before token Unexpected = ¬ Begins (before ++ token ∷ [])
-GrammarRefuses before token TooDeep = Begins (before ++ token ∷ []) × (is_mark_of 40 token ≡ true) × (max_open ≤ open_after before)
+GrammarRefuses before token TooDeep = Begins (before ++ token ∷ []) × (is_mark_of open_paren token ≡ true) × (max_open ≤ open_after before)
 GrammarRefuses before token TooMany = Begins (before ++ token ∷ []) × (begins_declaration token ≡ true) × (max_declarations ≤ begun_in before)
 GrammarRefuses before token NotText = ⊥
 GrammarRefuses before token NumberTooWide = ⊥
@@ -80,12 +75,16 @@ IsRefused before token kind = MatchOption (own_fault token) (GrammarRefuses befo
 abbrev pub AreTaken : List Token → ℕ → Type 0
 AreTaken tokens n = (k : ℕ) → k < n → MatchOption (slice_get tokens k) ⊥ (IsTaken (take k tokens))
 
+-- a text that ends, after these tokens, where the grammar wants more
+abbrev pub EndsTooEarly : List Spot → ℕ → ℕ → TextFault → Type 0
+EndsTooEarly all end at fault = (at ≡ length all) × ((decls : List Decl) → ¬ IsFile (map (λ s. s.token) all) decls) × (fault.place ≡ end) × (fault.kind ≡ Unexpected)
+
 -- the fault of tokens whose text ends at a place: the first that is refused, or the end where the grammar wants more
 pub record IsTokenFault (all : List Spot) (end : ℕ) (fault : TextFault) : Type 0 where
   pub at : ℕ
   pub taken : AreTaken (map (λ s. s.token) all) at
   pub is : MatchOption (slice_get all at)
-      ((at ≡ length all) × ((decls : List Decl) → ¬ IsFile (map (λ s. s.token) all) decls) × (fault.place ≡ end) × (fault.kind ≡ Unexpected))
+      (EndsTooEarly all end at fault)
       (λ s. (fault.place ≡ s.place) × IsRefused (take at (map (λ s. s.token) all)) s.token fault.kind)
 
 -- a byte that no text has comes before all else

@@ -2,6 +2,8 @@
 -- Source: docs/LANGUAGE.md, "Grammar".
 use Rattle.std.specs.Prelude.{◌≡◌, ℕ, ◌≤◌, List, [], ◌∷◌, ◌++◌, map, slice_index_or, codes}
 use Rattle.std.specs.List.{flat_map}
+use Rattle.table_text.specs.Bytes.{open_paren, close_paren, times_sign, plus_sign, colon, semicolon, open_brace, close_brace}
+use Rattle.table_text.specs.Limits.{max_level}
 use Rattle.table_text.specs.Lexing.{Token, name, reserved, number, mark}
 use Rattle.table_text.specs.declared.expr.Expr.{Expr}
 use Rattle.table_text.specs.declared.expr.Expr.TheVariants as expr
@@ -27,7 +29,7 @@ mutual
 
 -- item = "column" name ":" type ";" | "zero" name ":" sum ";"
 pub data ItemTree : Type 0 where
-  column_item : List ℕ → (level : ℕ) → level ≤ 7 → ItemTree
+  column_item : List ℕ → (level : ℕ) → level ≤ max_level → ItemTree
   zero_item : List ℕ → Sum → ItemTree
 
 -- table = "table" name "{" { item } "}"
@@ -44,16 +46,16 @@ FileTree = List TableTree
 abbrev mutual
   pub sum_tokens : Sum → List Token
   sum_tokens (first_term p) = product_tokens p
-  sum_tokens (plus s p) = sum_tokens s ++ mark 43 ∷ product_tokens p
+  sum_tokens (plus s p) = sum_tokens s ++ mark plus_sign ∷ product_tokens p
 
   pub product_tokens : Product → List Token
   product_tokens (first_factor a) = atom_tokens a
-  product_tokens (times p a) = product_tokens p ++ mark 42 ∷ atom_tokens a
+  product_tokens (times p a) = product_tokens p ++ mark times_sign ∷ atom_tokens a
 
   pub atom_tokens : Atom → List Token
   atom_tokens (constant n) = number n ∷ []
   atom_tokens (column w) = name w ∷ []
-  atom_tokens (parens s) = mark 40 ∷ sum_tokens s ++ mark 41 ∷ []
+  atom_tokens (parens s) = mark open_paren ∷ sum_tokens s ++ mark close_paren ∷ []
 
 -- the types' words, by level
 abbrev pub type_words : List (List ℕ)
@@ -63,11 +65,11 @@ abbrev pub type_word : ℕ → List ℕ
 type_word level = slice_index_or type_words level []
 
 abbrev pub item_tokens : ItemTree → List Token
-item_tokens (column_item w level _) = reserved (codes "column") ∷ name w ∷ mark 58 ∷ name (type_word level) ∷ mark 59 ∷ []
-item_tokens (zero_item w s) = reserved (codes "zero") ∷ name w ∷ mark 58 ∷ sum_tokens s ++ mark 59 ∷ []
+item_tokens (column_item w level _) = reserved (codes "column") ∷ name w ∷ mark colon ∷ name (type_word level) ∷ mark semicolon ∷ []
+item_tokens (zero_item w s) = reserved (codes "zero") ∷ name w ∷ mark colon ∷ sum_tokens s ++ mark semicolon ∷ []
 
 abbrev pub table_tokens : TableTree → List Token
-table_tokens t = reserved (codes "table") ∷ name t.name ∷ mark 123 ∷ flat_map item_tokens t.items ++ mark 125 ∷ []
+table_tokens t = reserved (codes "table") ∷ name t.name ∷ mark open_brace ∷ flat_map item_tokens t.items ++ mark close_brace ∷ []
 
 abbrev pub file_tokens : FileTree → List Token
 file_tokens f = flat_map table_tokens f

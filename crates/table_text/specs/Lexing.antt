@@ -3,6 +3,7 @@
 use Rattle.std.specs.Prelude.{ℕ, zero, suc, ◌+◌, ◌-◌, ◌^◌, Bool, not, ◌&&◌, ◌==◌, nat_eq, nat_lt, if◌then◌else◌, List, [], ◌∷◌, ◌++◌, length, map, drop, take_while, codes, Option, Some, None}
 use Rattle.std.specs.List.{list_any, starts_with}
 use Rattle.std.specs.Str.{bytes_eq}
+use Rattle.table_text.specs.Limits.{max_word}
 use Rattle.table_text.specs.Bytes.{is_blank, is_letter, is_word_byte, is_digit, is_hex_digit, is_mark, number_of}
 use Rattle.table_text.specs.declared.fault.TextKind.{TextKind}
 use Rattle.table_text.specs.declared.fault.TextKind.TheVariants.{Unexpected, NumberTooWide, NameTooLong}
@@ -25,7 +26,7 @@ abbrev pub is_reserved : List ℕ → Bool
 is_reserved word = list_any (bytes_eq word) reserved_words
 
 abbrev pub word_token : List ℕ → Token
-word_token word = if nat_lt 64 (length word) then wrong NameTooLong else (if is_reserved word then reserved word else name word)
+word_token word = if nat_lt max_word (length word) then wrong NameTooLong else (if is_reserved word then reserved word else name word)
 
 abbrev pub number_token : ℕ → Token
 number_token n = if nat_lt n (2 ^ 128) then number n else wrong NumberTooWide

@@ -1,4 +1,5 @@
 pub mod Bytes
+pub mod Limits
 pub mod Lexing
 pub mod Grammar
 pub mod Valid

@@ -2,6 +2,7 @@
 -- Source: docs/ARCHITECTURE.md, "Within table_text".
 use Rattle.std.specs.Prelude.{ℕ, ◌+◌, Bool, true, false, ◌&&◌, ◌==◌, if◌then◌else◌, List, [], ◌∷◌, ◌++◌, length, codes, Option, Some, None, option_map, option_and_then}
 use Rattle.std.specs.Str.{bytes_eq}
+use Rattle.table_text.specs.Bytes.{open_paren, close_paren, times_sign, plus_sign, colon, semicolon, open_brace, close_brace}
 use Rattle.table_text.specs.Lexing.{Token, name, reserved, number, mark, wrong}
 use Rattle.table_text.specs.Grammar.{sum_of, product_of, type_words}
 use Rattle.table_text.specs.Faults.{is_mark_of}
@@ -95,27 +96,27 @@ abbrev pub operand_step : List ℕ → Formula → Token → Option ItemStage
 operand_step n f (name w) = Some (Operator n (with_factor f (expr.Column w)))
 operand_step n f (reserved w) = None
 operand_step n f (number k) = Some (Operator n (with_factor f (expr.Number k)))
-operand_step n f (mark b) = if b == 40 then Some (Operand n (opened f)) else None
+operand_step n f (mark b) = if b == open_paren then Some (Operand n (opened f)) else None
 operand_step n f (wrong kind) = None
 
 -- behind an operand: `*`, `+`, `)` or `;`
 abbrev pub operator_step : List Item → List ℕ → Formula → Token → Option Body
 operator_step items n f token =
-    if is_mark_of 42 token then Some (body_at items (Operand n f))
-    else (if is_mark_of 43 token then Some (body_at items (Operand n (with_term f)))
-    else (if is_mark_of 41 token then option_map (λ g. body_at items (Operator n g)) (closed f)
-    else (if is_mark_of 59 token && (length f.outer == 0) then Some (body_at (items ++ item.Zero n (innermost f) ∷ []) Start) else None)))
+    if is_mark_of times_sign token then Some (body_at items (Operand n f))
+    else (if is_mark_of plus_sign token then Some (body_at items (Operand n (with_term f)))
+    else (if is_mark_of close_paren token then option_map (λ g. body_at items (Operator n g)) (closed f)
+    else (if is_mark_of semicolon token && (length f.outer == 0) then Some (body_at (items ++ item.Zero n (innermost f) ∷ []) Start) else None)))
 
 -- what comes next in a table after one token more
 abbrev pub body_step : List Item → ItemStage → Token → Option Body
 body_step items Start token =
     if is_word (codes "column") token then Some (body_at items ColumnName) else (if is_word (codes "zero") token then Some (body_at items ZeroName) else None)
 body_step items ColumnName token = option_map (λ w. body_at items (ColumnColon w)) (name_of token)
-body_step items (ColumnColon n) token = if is_mark_of 58 token then Some (body_at items (ColumnType n)) else None
+body_step items (ColumnColon n) token = if is_mark_of colon token then Some (body_at items (ColumnType n)) else None
 body_step items (ColumnType n) token = option_map (λ level. body_at items (ColumnEnd n level)) (option_and_then level_of (name_of token))
-body_step items (ColumnEnd n level) token = if is_mark_of 59 token then Some (body_at (items ++ item.Column n level 0 ∷ []) Start) else None
+body_step items (ColumnEnd n level) token = if is_mark_of semicolon token then Some (body_at (items ++ item.Column n level 0 ∷ []) Start) else None
 body_step items ZeroName token = option_map (λ w. body_at items (ZeroColon w)) (name_of token)
-body_step items (ZeroColon n) token = if is_mark_of 58 token then Some (body_at items (Operand n no_formula)) else None
+body_step items (ZeroColon n) token = if is_mark_of colon token then Some (body_at items (Operand n no_formula)) else None
 body_step items (Operand n f) token = option_map (body_at items) (operand_step n f token)
 body_step items (Operator n f) token = operator_step items n f token
 
@@ -140,9 +141,9 @@ state_at decls stage = record { decls = decls; stage = stage }
 abbrev pub stage_step : List Decl → Stage → Token → Option State
 stage_step decls stage.File token = if is_word (codes "table") token then Some (state_at decls stage.TableName) else None
 stage_step decls stage.TableName token = option_map (λ w. state_at decls (stage.TableBrace w)) (name_of token)
-stage_step decls (stage.TableBrace n) token = if is_mark_of 123 token then Some (state_at decls (stage.Table n (body_at [] Start))) else None
+stage_step decls (stage.TableBrace n) token = if is_mark_of open_brace token then Some (state_at decls (stage.Table n (body_at [] Start))) else None
 stage_step decls (stage.Table n body) token =
-    if is_mark_of 125 token && is_start body.stage then Some (state_at (decls ++ decl.Table n body.items ∷ []) stage.File)
+    if is_mark_of close_brace token && is_start body.stage then Some (state_at (decls ++ decl.Table n body.items ∷ []) stage.File)
     else option_map (λ b. state_at decls (stage.Table n b)) (body_step body.items body.stage token)
 
 -- the machine after one token more

@@ -8,6 +8,7 @@ ghost use Rattle.table_text.specs.Shown.{shown, shown_piece};
 
 use crate::byte_classes::{is_blank, is_digit, is_hex_digit, is_letter, is_mark, is_word_byte};
 use crate::fault::TextKind;
+use crate::limits::MAX_WORD;
 use crate::number::number_of;
 use crate::token::Token;
 
@@ -71,7 +72,7 @@ fn is_reserved(word: &[u8]) -> bool
 fn word_token(word: &[u8]) -> Token<'_>
     ensures { shown result ≡ word_token word.now }
 {
-    if word.len() > 64 {
+    if word.len() > MAX_WORD {
         Token::Wrong(TextKind::NameTooLong)
     } else if is_reserved(word) {
         Token::Reserved(word)

@@ -8,6 +8,7 @@ pub mod expr;
 pub mod fault;
 mod formula;
 mod lexer;
+pub mod limits;
 mod number;
 mod progress;
 pub mod read;

@@ -6,6 +6,7 @@ ghost use Rattle.table_text.specs.Shown.{shown};
 
 use crate::decl::Decls;
 use crate::fault::{TextFault, TextKind, TextStop};
+use crate::limits::{MAX_DECLARATIONS, MAX_OPEN};
 use crate::refusal::Refusal;
 use crate::state::{State, is_file_stage, start, step};
 use crate::token::{Token, begins_declaration, is_mark, own_fault};
@@ -19,10 +20,6 @@ pub(crate) struct Progress {
     pub closed: usize,
     pub begun: usize,
 }
-
-const MAX_OPEN: usize = 32;
-
-const MAX_DECLARATIONS: usize = 65535;
 
 /// Before the first token.
 pub(crate) fn begin(alloc: Global) -> Progress

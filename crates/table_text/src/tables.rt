@@ -22,20 +22,22 @@ impl Model for Tables {
     ghost coded = { Prim.hlevel (codes, expr.the_row.coded) };
 
     ghost use Rattle.std.specs.Prelude.{◌≤◌};
+    ghost use Rattle.table_text.specs.Limits.{max_declarations};
     ghost use Rattle.table_text.specs.Valid.{LevelsFit, declarations};
 
     ghost view = { λ t. t.decls };
 
-    ghost invariant = { λ t. LevelsFit t.decls × (declarations t.decls ≤ 65535) };
+    ghost invariant = { λ t. LevelsFit t.decls × (declarations t.decls ≤ max_declarations) };
 }
 
 impl Tables {
     ghost use Rattle.std.specs.Prelude.{◌≤◌};
+    ghost use Rattle.table_text.specs.Limits.{max_declarations};
     ghost use Rattle.table_text.specs.Valid.{LevelsFit, declarations};
 
     pub(crate) fn new(decls: Decls) -> Tables
         requires levels { LevelsFit decls }
-        requires few { declarations decls ≤ 65535 }
+        requires few { declarations decls ≤ max_declarations }
         ensures { result ≡ decls }
     {
         Tables { decls }
@@ -45,7 +47,7 @@ impl Tables {
     pub fn decls(&self) -> &[Decl]
         ensures all { result.now ≡ self.now }
         ensures levels { LevelsFit self.now }
-        ensures few { declarations self.now ≤ 65535 }
+        ensures few { declarations self.now ≤ max_declarations }
     {
         self.decls.as_slice()
     }
