@@ -2,6 +2,7 @@
 
 #![tactic(auto)]
 
+mod by_level;
 mod byte;
 mod bytes_again;
 mod element;
