@@ -9,6 +9,7 @@ use Rattle.table_text.specs.declared.fault.TextFault.{TextFault}
 use Rattle.table_text.specs.declared.fault.TextStop.{TextStop}
 use Rattle.table_text.specs.declared.fault.TextStop.TheVariants.{Fault, NoMemory}
 use Rattle.table_text.specs.Faults.{IsTablesText, IsFirstFault}
+use Rattle.m3_tool.specs.Limits.{max_tables_file, max_witness_file}
 use Rattle.m3_tool.specs.declared.shape.ConstraintShape.{ConstraintShape}
 use Rattle.m3_tool.specs.declared.shape.TableShape.{TableShape}
 use Rattle.m3_tool.specs.declared.judge.Violation.{Violation}
@@ -17,13 +18,13 @@ use Rattle.m3_tool.specs.declared.witness.WitnessStop.{WitnessStop}
 use Rattle.m3_tool.specs.declared.resolve.ShapeFault.{ShapeFault}
 use Rattle.m3_tool.specs.declared.check.Shaped.{Shaped}
 use Rattle.m3_tool.specs.declared.check.Shaped.TheVariants as shaped
-use Rattle.m3_tool.specs.Witness.{Witness as Given, IsOf, filling_of}
+use Rattle.m3_tool.specs.Witness.{WitnessData, IsOf, filling_of}
 use Rattle.m3_tool.specs.Checking.{IsShaped, IsShapedFile}
 use Rattle.m3_tool.specs.Filling.{Filling}
 use Rattle.m3_tool.specs.Satisfies.{IsFirstViolation}
 use Rattle.m3_tool.specs.Lines.{violation_line, too_long_line, shape_fault_line}
-use Rattle.m3_tool.specs.Run.{Answer, answer, IsJudgement, IsWitnessAnswer, IsWitnessFileAnswer, IsTextAnswer, IsCheckAnswer, witness_refusal, max_tables_file, max_witness_file}
-use Rattle.m3_tool.specs.Answered.{IsReadOnce, answer_of}
+use Rattle.m3_tool.specs.Run.{Answer, answer, IsJudgement, IsWitnessAnswer, IsWitnessFileAnswer, IsTextAnswer, IsCheckAnswer, witness_refusal}
+use Rattle.m3_tool.specs.Answer.{IsReadOnce, answer_of}
 
 -- a reader that answers every text's declarations and every fault reads each text once
 pub read_once : (text : List ℕ) (r : Result (List Decl) TextStop) → r ≢ Err NoMemory
@@ -69,10 +70,10 @@ judged_witness tables stored file rows filling a same (w, read, rows_are, fillin
     let at : IsJudgement tables w.rows (filling_of tables w) a =
     subst (λ (ts : List TableShape). IsJudgement ts w.rows (filling_of tables w) a) same
     (subst (λ (f : Filling). IsJudgement stored w.rows f a) filling_is (subst (λ (r : List ℕ). IsJudgement stored r filling a) rows_are judged)) in
-    subst (λ (r : Result Given WitnessStop). MatchResult r (λ (w : Given). IsJudgement tables w.rows (filling_of tables w) a) (λ stop. a ≡ witness_refusal stop)) (sym read) at
+    subst (λ (r : Result WitnessData WitnessStop). MatchResult r (λ (w : WitnessData). IsJudgement tables w.rows (filling_of tables w) a) (λ stop. a ≡ witness_refusal stop)) (sym read) at
 
 -- a file within its limit is judged by what stands in it
-within_tables : (text witness : List ℕ) (a : Answer) → length text ≤ max_tables_file → IsTextAnswer text witness a → IsCheckAnswer text witness a
+pub within_tables : (text witness : List ℕ) (a : Answer) → length text ≤ max_tables_file → IsTextAnswer text witness a → IsCheckAnswer text witness a
 within_tables text witness a within is =
     let short : nat_lt max_tables_file (length text) ≡ false = grind (arith, nat_tests) in
     subst (λ b. MatchBool b (a ≡ answer TooLong (too_long_line max_tables_file)) (IsTextAnswer text witness a)) (sym short) is

@@ -10,8 +10,8 @@ use Rattle.m3_tool.specs.Shape.{ColumnsFit, TableFits, TablesFit}
 use Rattle.m3_tool.specs.Size.{ceil_log}
 use Rattle.m3_tool.specs.Digits.{number_of_bytes}
 use Rattle.m3_tool.specs.Filling.{values_of}
-use Rattle.m3_tool.specs.Stored.{IsStored, bytes_at}
-use Rattle.m3_tool.specs.Witness.{bits_of, column_values, table_values, all_values}
+use Rattle.m3_tool.specs.Store.{IsStored, bytes_at}
+use Rattle.m3_tool.specs.Witness.{written_bits, column_values, table_values, all_values}
 use Rattle.m3_tool.proofs.CeilLog.{is_least}
 use Rattle.m3_tool.proofs.ByteDigits.{digit_at, powers}
 
@@ -89,16 +89,16 @@ size_of : (n v i : ℕ) → (2 ^ (2 ^ i)) ^ (2 ^ (n + v)) ≡ 2 ^ (2 ^ (n + v + 
 size_of n v i = powers (2 ^ i) (2 ^ (n + v)) ∙ ap (λ x. 2 ^ x) (mul_comm (2 ^ i) (2 ^ (n + v)) ∙ sym (pow-add 2 (n + v) i))
 
 -- the bits of the rows are among those of the rows filled up
-pub bits_below : (m : ℕ) (column : ColumnShape) → 2 ^ bits_of m column ≤ (2 ^ (2 ^ column.level)) ^ (2 ^ (ceil_log m + column.log_values))
+pub bits_below : (m : ℕ) (column : ColumnShape) → 2 ^ written_bits m column ≤ (2 ^ (2 ^ column.level)) ^ (2 ^ (ceil_log m + column.log_values))
 bits_below m column =
     let v = column.log_values in
     let i = column.level in
     let e : 2 ^ (ceil_log m + v + i) ≡ 2 ^ ceil_log m * 2 ^ (v + i) = ap (λ x. 2 ^ x) (omega arith) ∙ pow-add 2 (ceil_log m) (v + i) in
     let le = mul-le m (2 ^ (v + i)) (2 ^ ceil_log m) (2 ^ (v + i)) (is_least m).enough (omega arith) in
-    let mono = pow-le-pow_right {n = 2} (omega arith) {i = bits_of m column} {j = 2 ^ (ceil_log m + v + i)} (omega arith) in
+    let mono = pow-le-pow_right {n = 2} (omega arith) {i = written_bits m column} {j = 2 ^ (ceil_log m + v + i)} (omega arith) in
     omega (arith, mono, size_of (ceil_log m) v i)
 
-pub value_at : (m : ℕ) (column : ColumnShape) (bytes : List ℕ) (p : ℕ) → number_of_bytes bytes < 2 ^ bits_of m column
+pub value_at : (m : ℕ) (column : ColumnShape) (bytes : List ℕ) (p : ℕ) → number_of_bytes bytes < 2 ^ written_bits m column
     → get_or (column_values m column bytes) p 0 ≡ number_of_bytes bytes / (2 ^ (2 ^ column.level)) ^ p % 2 ^ (2 ^ column.level)
 value_at m column bytes p h =
     let below = bits_below m column in
@@ -130,8 +130,8 @@ unwrapped (Some x) n h s k = s
 
 pub bits_fit : (tables : List TableShape) (rows : List ℕ) (bytes : List (List (List ℕ))) (t c : ℕ) (table : TableShape) (column : ColumnShape) (columns : List (List ℕ)) (b : List ℕ)
     → IsStored tables rows bytes → slice_get tables t ≡ Some table → slice_get table.columns c ≡ Some column → slice_get bytes t ≡ Some columns → slice_get columns c ≡ Some b
-    → number_of_bytes b < 2 ^ bits_of (get_or rows t 0) column
+    → number_of_bytes b < 2 ^ written_bits (get_or rows t 0) column
 bits_fit tables rows bytes t c table column columns b stored e f g k =
     let found : bytes_at bytes t c ≡ Some b = ap (option_and_then (λ cs. slice_get cs c)) g ∙ k in
-    let P : Option (List ℕ) → Type 0 = λ o. IsSomeAnd o (λ x. number_of_bytes x < 2 ^ bits_of (get_or rows t 0) column) in
+    let P : Option (List ℕ) → Type 0 = λ o. IsSomeAnd o (λ x. number_of_bytes x < 2 ^ written_bits (get_or rows t 0) column) in
     subst P found (stored.columns t c table column e f)

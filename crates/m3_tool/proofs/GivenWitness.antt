@@ -10,13 +10,13 @@ use Rattle.m3_tool.specs.declared.witness.WitnessPlace.TheVariants.{Whole, Table
 use Rattle.m3_tool.specs.declared.witness.WitnessKind.{WitnessKind}
 use Rattle.m3_tool.specs.declared.witness.WitnessKind.TheVariants.{NotJson, NotAnObject, MissingTable, BadRows, MissingColumn, NotAText, BadHex, WrongLength, PaddingBits, ExtraColumn, ExtraTable}
 use Rattle.m3_tool.specs.declared.witness.WitnessStop.TheVariants.{TooLarge}
-use Rattle.m3_tool.specs.Steps.{◌>>=◌}
+use Rattle.m3_tool.specs.AndThen.{◌>>=◌}
 use Rattle.m3_tool.specs.Size.{size_log}
 use Rattle.m3_tool.specs.Shape.{column_names, table_names}
 use Rattle.m3_tool.specs.Digits.{number_of_bytes}
-use Rattle.m3_tool.specs.Witness.{Witness, or_refuse, unless, json_of, rows_of, object_of, objects_of, bits_of, hex_bytes, column_bytes, columns_bytes, has_other, table_bytes, tables_bytes, within_size, witness_of_objects, witness_of}
-use Rattle.m3_tool.specs.Given.{GivesColumn, GivesColumns, GivesTable, GivesTables, GivesWitness}
-use Rattle.m3_tool.proofs.Following.{bind_ok, bind_is}
+use Rattle.m3_tool.specs.Witness.{WitnessData, or_refuse, unless, json_of, rows_of, object_of, objects_of, written_bits, hex_bytes, column_bytes, columns_bytes, has_other, table_bytes, tables_bytes, within_size, witness_of_objects, witness_of}
+use Rattle.m3_tool.specs.WitnessMeaning.{GivesColumn, GivesColumns, GivesTable, GivesTables, GivesWitness}
+use Rattle.m3_tool.proofs.ReadingSteps.{bind_ok, bind_is}
 use Rattle.m3_tool.proofs.KeptWitness.{along, was_there, passed, within, below_along}
 
 there : {X : Type 0} (place : WitnessPlace) (kind : WitnessKind) (o : Option X) (x : X) → o ≡ Some x → or_refuse place kind o ≡ Ok x
@@ -30,16 +30,16 @@ passes test place kind x e = ap (λ b. unless b place kind x) e
 column_given : (t c rows : ℕ) (column : ColumnShape) (object : Members) (bytes : List ℕ) → column_bytes t c rows column object ≡ Ok bytes → GivesColumn object rows column bytes
 column_given t c rows column object bytes e =
     let place = Column t c in
-    let last = λ (b : List ℕ). unless (ltb (number_of_bytes b) (2 ^ bits_of rows column)) place PaddingBits b in
-    let fourth = λ (b : List ℕ). unless (length b == (bits_of rows column + 7) / 8) place WrongLength b >>= last in
+    let last = λ (b : List ℕ). unless (ltb (number_of_bytes b) (2 ^ written_bits rows column)) place PaddingBits b in
+    let fourth = λ (b : List ℕ). unless (length b == (written_bits rows column + 7) / 8) place WrongLength b >>= last in
     let third = λ (text : List ℕ). or_refuse place BadHex (hex_bytes text) >>= fourth in
     let second = λ (found : Data). or_refuse place NotAText (as_str found) >>= third in
     let a = bind_ok (or_refuse place MissingColumn (get_member column.name object)) second bytes e in
     let b = bind_ok (or_refuse place NotAText (as_str a.0)) third bytes a.2 in
     let d = bind_ok (or_refuse place BadHex (hex_bytes b.0)) fourth bytes b.2 in
-    let f = bind_ok (unless (length d.0 == (bits_of rows column + 7) / 8) place WrongLength d.0) last bytes d.2 in
-    let g = passed (length d.0 == (bits_of rows column + 7) / 8) place WrongLength d.0 f.0 f.1 in
-    let h = passed (ltb (number_of_bytes f.0) (2 ^ bits_of rows column)) place PaddingBits f.0 bytes f.2 in
+    let f = bind_ok (unless (length d.0 == (written_bits rows column + 7) / 8) place WrongLength d.0) last bytes d.2 in
+    let g = passed (length d.0 == (written_bits rows column + 7) / 8) place WrongLength d.0 f.0 f.1 in
+    let h = passed (ltb (number_of_bytes f.0) (2 ^ written_bits rows column)) place PaddingBits f.0 bytes f.2 in
     let is : d.0 ≡ bytes = g.1 ∙ h.1 in
     record {
       found = a.0;
@@ -47,23 +47,23 @@ column_given t c rows column object bytes e =
       is_there = was_there place MissingColumn (get_member column.name object) a.0 a.1;
       is_text = was_there place NotAText (as_str a.0) b.0 b.1;
       is_hex = was_there place BadHex (hex_bytes b.0) d.0 d.1 ∙ ap Some is;
-      len = ap length (sym is) ∙ eqb-true (length d.0) ((bits_of rows column + 7) / 8) g.0;
-      no_padding = below_along f.0 bytes (2 ^ bits_of rows column) h.1 (ltb-true (number_of_bytes f.0) (2 ^ bits_of rows column) h.0);
+      len = ap length (sym is) ∙ eqb-true (length d.0) ((written_bits rows column + 7) / 8) g.0;
+      no_padding = below_along f.0 bytes (2 ^ written_bits rows column) h.1 (ltb-true (number_of_bytes f.0) (2 ^ written_bits rows column) h.0);
     }
 
 column_read : (t c rows : ℕ) (column : ColumnShape) (object : Members) (bytes : List ℕ) → GivesColumn object rows column bytes → column_bytes t c rows column object ≡ Ok bytes
 column_read t c rows column object bytes g =
     let place = Column t c in
-    let last = λ (b : List ℕ). unless (ltb (number_of_bytes b) (2 ^ bits_of rows column)) place PaddingBits b in
-    let fourth = λ (b : List ℕ). unless (length b == (bits_of rows column + 7) / 8) place WrongLength b >>= last in
+    let last = λ (b : List ℕ). unless (ltb (number_of_bytes b) (2 ^ written_bits rows column)) place PaddingBits b in
+    let fourth = λ (b : List ℕ). unless (length b == (written_bits rows column + 7) / 8) place WrongLength b >>= last in
     let third = λ (text : List ℕ). or_refuse place BadHex (hex_bytes text) >>= fourth in
     let second = λ (found : Data). or_refuse place NotAText (as_str found) >>= third in
     bind_is (or_refuse place MissingColumn (get_member column.name object)) g.found second (there place MissingColumn (get_member column.name object) g.found g.is_there)
     ∙ bind_is (or_refuse place NotAText (as_str g.found)) g.text third (there place NotAText (as_str g.found) g.text g.is_text)
     ∙ bind_is (or_refuse place BadHex (hex_bytes g.text)) bytes fourth (there place BadHex (hex_bytes g.text) bytes g.is_hex)
-    ∙ bind_is (unless (length bytes == (bits_of rows column + 7) / 8) place WrongLength bytes) bytes last
-    (passes (length bytes == (bits_of rows column + 7) / 8) place WrongLength bytes (eq-eqb (length bytes) ((bits_of rows column + 7) / 8) g.len))
-    ∙ passes (ltb (number_of_bytes bytes) (2 ^ bits_of rows column)) place PaddingBits bytes (lt-ltb (number_of_bytes bytes) (2 ^ bits_of rows column) g.no_padding)
+    ∙ bind_is (unless (length bytes == (written_bits rows column + 7) / 8) place WrongLength bytes) bytes last
+    (passes (length bytes == (written_bits rows column + 7) / 8) place WrongLength bytes (eq-eqb (length bytes) ((written_bits rows column + 7) / 8) g.len))
+    ∙ passes (ltb (number_of_bytes bytes) (2 ^ written_bits rows column)) place PaddingBits bytes (lt-ltb (number_of_bytes bytes) (2 ^ written_bits rows column) g.no_padding)
 
 columns_given : (t c rows : ℕ) (columns : List ColumnShape) (object : Members) (bytes : List (List ℕ)) → columns_bytes t c rows columns object ≡ Ok bytes → GivesColumns object rows columns bytes
 columns_given t c rows [] object bytes e = let nil : List (List ℕ) = [] in along (λ (bs : List (List ℕ)). GivesColumns object rows [] bs) nil bytes e tt
@@ -168,7 +168,7 @@ tables_read t (table ∷ tables) whole (m ∷ rows) (b ∷ bytes) g =
 
 -- ---- the whole
 
-witness_given : (tables : List TableShape) (file : List ℕ) (w : Witness) → witness_of tables file ≡ Ok w → GivesWitness tables file w
+witness_given : (tables : List TableShape) (file : List ℕ) (w : WitnessData) → witness_of tables file ≡ Ok w → GivesWitness tables file w
 witness_given tables file w e =
     let third = λ (whole : Members). objects_of 0 tables whole >>= witness_of_objects tables whole in
     let second = λ (json : Data). or_refuse Whole NotAnObject (as_object json) >>= third in
@@ -180,10 +180,10 @@ witness_given tables file w e =
     let last = λ (rows : List ℕ). λ (bytes : List (List (List ℕ))). unless others Whole ExtraTable (record { rows = rows; bytes = bytes }) in
     let f = bind_ok (within_size tables rs) (λ rows. tables_bytes 0 tables d.0 >>= last rows) w d.2 in
     let g = bind_ok (tables_bytes 0 tables d.0) (last f.0) w f.2 in
-    let made : Witness = record { rows = f.0; bytes = g.0 } in
+    let made : WitnessData = record { rows = f.0; bytes = g.0 } in
     let h = passed others Whole ExtraTable made w g.2 in
     let s = within tables rs f.0 f.1 in
-    let found : Witness = record { rows = rs; bytes = g.0 } in
+    let found : WitnessData = record { rows = rs; bytes = g.0 } in
     let given : GivesWitness tables file found = record {
       json = a.0;
       whole = b.0;
@@ -198,7 +198,7 @@ witness_given tables file w e =
 within_read : (tables : List TableShape) (rows : List ℕ) → size_log tables rows ≤ 24 → within_size tables rows ≡ Ok rows
 within_read tables rows h = ap (λ b. cond b (Err (TooLarge (size_log tables rows))) (Ok rows)) (le-ltb 24 (size_log tables rows) h)
 
-witness_read : (tables : List TableShape) (file : List ℕ) (w : Witness) → GivesWitness tables file w → witness_of tables file ≡ Ok w
+witness_read : (tables : List TableShape) (file : List ℕ) (w : WitnessData) → GivesWitness tables file w → witness_of tables file ≡ Ok w
 witness_read tables file w g =
     let third = λ (whole : Members). objects_of 0 tables whole >>= witness_of_objects tables whole in
     let second = λ (json : Data). or_refuse Whole NotAnObject (as_object json) >>= third in
@@ -212,5 +212,5 @@ witness_read tables file w g =
     ∙ bind_is (tables_bytes 0 tables r.objects) w.bytes (last w.rows) r.bytes_are
     ∙ passes others Whole ExtraTable w (ap not g.no_other)
 
-pub read_where_given : (tables : List TableShape) (file : List ℕ) (w : Witness) → (witness_of tables file ≡ Ok w) ↔ GivesWitness tables file w
+pub read_where_given : (tables : List TableShape) (file : List ℕ) (w : WitnessData) → (witness_of tables file ≡ Ok w) ↔ GivesWitness tables file w
 read_where_given tables file w = (witness_given tables file w, witness_read tables file w)

@@ -16,16 +16,16 @@ use Rattle.m3_tool.specs.declared.witness.WitnessKind.{WitnessKind}
 use Rattle.m3_tool.specs.declared.witness.WitnessKind.TheVariants.{NotJson, NotAnObject, MissingTable, BadRows, MissingColumn, NotAText, BadHex, WrongLength, PaddingBits, ExtraColumn, ExtraTable}
 use Rattle.m3_tool.specs.declared.witness.WitnessStop.{WitnessStop}
 use Rattle.m3_tool.specs.declared.witness.WitnessStop.TheVariants.{TooLarge}
-use Rattle.m3_tool.specs.Steps.{◌>>=◌}
+use Rattle.m3_tool.specs.AndThen.{◌>>=◌}
 use Rattle.m3_tool.specs.Size.{ceil_log, size_log}
 use Rattle.m3_tool.specs.Shape.{column_names, table_names}
 use Rattle.m3_tool.specs.Digits.{number_of_bytes}
 use Rattle.m3_tool.specs.Filling.{IsColumn, IsFilling}
-use Rattle.m3_tool.specs.Stored.{IsStored, bytes_at}
-use Rattle.m3_tool.specs.Witness.{Witness, or_refuse, unless, json_of, rows_of, object_of, objects_of, rows_of_tables, bits_of, column_values, hex_bytes, column_bytes, columns_bytes, has_other, table_bytes, tables_bytes, within_size, witness_of_objects, witness_of, all_values}
+use Rattle.m3_tool.specs.Store.{IsStored, bytes_at}
+use Rattle.m3_tool.specs.Witness.{WitnessData, or_refuse, unless, json_of, rows_of, object_of, objects_of, rows_of_tables, written_bits, column_values, hex_bytes, column_bytes, columns_bytes, has_other, table_bytes, tables_bytes, within_size, witness_of_objects, witness_of, all_values}
 use Rattle.m3_tool.proofs.ByteDigits.{length-digits, no_digit, powers}
 use Rattle.m3_tool.proofs.ColumnValues.{the_column, value_at}
-use Rattle.m3_tool.proofs.Following.{bind_ok}
+use Rattle.m3_tool.proofs.ReadingSteps.{bind_ok}
 
 abbrev pub Got : {X : Type 0} → Result X WitnessStop → X → Type 0
 Got r x = r ≡ Ok x
@@ -91,22 +91,22 @@ rows_kept tables whole rows e =
 pub below_along : (x y : List ℕ) (n : ℕ) → x ≡ y → number_of_bytes x < n → number_of_bytes y < n
 below_along x y n e h = let P : List ℕ → Type 0 = λ z. number_of_bytes z < n in subst P e h
 
-column_kept : (t c rows : ℕ) (column : ColumnShape) (object : Members) (bytes : List ℕ) → column_bytes t c rows column object ≡ Ok bytes → number_of_bytes bytes < 2 ^ bits_of rows column
+column_kept : (t c rows : ℕ) (column : ColumnShape) (object : Members) (bytes : List ℕ) → column_bytes t c rows column object ≡ Ok bytes → number_of_bytes bytes < 2 ^ written_bits rows column
 column_kept t c rows column object bytes e =
     let place = Column t c in
-    let last = λ (b : List ℕ). unless (ltb (number_of_bytes b) (2 ^ bits_of rows column)) place PaddingBits b in
-    let fourth = λ (b : List ℕ). unless (length b == (bits_of rows column + 7) / 8) place WrongLength b >>= last in
+    let last = λ (b : List ℕ). unless (ltb (number_of_bytes b) (2 ^ written_bits rows column)) place PaddingBits b in
+    let fourth = λ (b : List ℕ). unless (length b == (written_bits rows column + 7) / 8) place WrongLength b >>= last in
     let third = λ (text : List ℕ). or_refuse place BadHex (hex_bytes text) >>= fourth in
     let second = λ (found : Data). or_refuse place NotAText (as_str found) >>= third in
     let a = bind_ok (or_refuse place MissingColumn (get_member column.name object)) second bytes e in
     let b = bind_ok (or_refuse place NotAText (as_str a.0)) third bytes a.2 in
     let d = bind_ok (or_refuse place BadHex (hex_bytes b.0)) fourth bytes b.2 in
-    let f = bind_ok (unless (length d.0 == (bits_of rows column + 7) / 8) place WrongLength d.0) last bytes d.2 in
-    let g = passed (ltb (number_of_bytes f.0) (2 ^ bits_of rows column)) place PaddingBits f.0 bytes f.2 in
-    below_along f.0 bytes (2 ^ bits_of rows column) g.1 (ltb-true (number_of_bytes f.0) (2 ^ bits_of rows column) g.0)
+    let f = bind_ok (unless (length d.0 == (written_bits rows column + 7) / 8) place WrongLength d.0) last bytes d.2 in
+    let g = passed (ltb (number_of_bytes f.0) (2 ^ written_bits rows column)) place PaddingBits f.0 bytes f.2 in
+    below_along f.0 bytes (2 ^ written_bits rows column) g.1 (ltb-true (number_of_bytes f.0) (2 ^ written_bits rows column) g.0)
 
 abbrev IsSpelled : ℕ → ColumnShape → Option (List ℕ) → Type 0
-IsSpelled rows column o = IsSomeAnd o (λ b. number_of_bytes b < 2 ^ bits_of rows column)
+IsSpelled rows column o = IsSomeAnd o (λ b. number_of_bytes b < 2 ^ written_bits rows column)
 
 columns_kept : (t k rows : ℕ) (columns : List ColumnShape) (object : Members) (bytes : List (List ℕ)) → columns_bytes t k rows columns object ≡ Ok bytes
     → (c : ℕ) (column : ColumnShape) → slice_get columns c ≡ Some column → IsSpelled rows column (slice_get bytes c)
@@ -118,10 +118,10 @@ columns_kept t k rows (first ∷ columns) object bytes e c column is =
     along (λ (bs : List (List ℕ)). IsSpelled rows column (slice_get bs c)) made bytes b.2
     (at_place rows first columns a.0 b.0 (column_kept t k rows first object a.0 a.1) (columns_kept t (k + 1) rows columns object b.0 b.1) c column is)
   where
-    at_place : (rows : ℕ) (first : ColumnShape) (columns : List ColumnShape) (b : List ℕ) (more : List (List ℕ)) → number_of_bytes b < 2 ^ bits_of rows first
+    at_place : (rows : ℕ) (first : ColumnShape) (columns : List ColumnShape) (b : List ℕ) (more : List (List ℕ)) → number_of_bytes b < 2 ^ written_bits rows first
         → ((c : ℕ) (column : ColumnShape) → slice_get columns c ≡ Some column → IsSpelled rows column (slice_get more c))
         → (c : ℕ) (column : ColumnShape) → slice_get (first ∷ columns) c ≡ Some column → IsSpelled rows column (slice_get (b ∷ more) c)
-    at_place rows first columns b more h k zero column is = let e : first ≡ column = cc in subst (λ (x : ColumnShape). number_of_bytes b < 2 ^ bits_of rows x) e h
+    at_place rows first columns b more h k zero column is = let e : first ≡ column = cc in subst (λ (x : ColumnShape). number_of_bytes b < 2 ^ written_bits rows x) e h
     at_place rows first columns b more h k (suc c) column is = k c column is
 
 table_kept : (t : ℕ) (table : TableShape) (object : Members × ℕ) (bytes : List (List ℕ)) → table_bytes t table object ≡ Ok bytes
@@ -161,22 +161,22 @@ within tables rs rows e = small (ltb 24 (size_log tables rs)) refl e
     small true t h = absurd cc
     small false t h = (ltb-false 24 (size_log tables rs) t, same rs rows h)
 
-objects_kept : (tables : List TableShape) (whole : Members) (objects : List (Members × ℕ)) (w : Witness) → objects_of 0 tables whole ≡ Ok objects → witness_of_objects tables whole objects ≡ Ok w → IsStored tables w.rows w.bytes
+objects_kept : (tables : List TableShape) (whole : Members) (objects : List (Members × ℕ)) (w : WitnessData) → objects_of 0 tables whole ≡ Ok objects → witness_of_objects tables whole objects ≡ Ok w → IsStored tables w.rows w.bytes
 objects_kept tables whole objects w is e =
     let rs = map (λ (o : Members × ℕ). o.1) objects in
     let others = not (has_other (table_names tables) whole) in
     let last = λ (rows : List ℕ). λ (bytes : List (List (List ℕ))). unless others Whole ExtraTable (record { rows = rows; bytes = bytes }) in
     let a = bind_ok (within_size tables rs) (λ rows. tables_bytes 0 tables objects >>= last rows) w e in
     let b = bind_ok (tables_bytes 0 tables objects) (last a.0) w a.2 in
-    let made : Witness = record { rows = a.0; bytes = b.0 } in
+    let made : WitnessData = record { rows = a.0; bytes = b.0 } in
     let g = passed others Whole ExtraTable made w b.2 in
     let s = within tables rs a.0 a.1 in
     let rows = objects_rows 0 tables whole objects is in
     let stored : IsStored tables rs b.0 = record { counts = rows.counts; few = rows.few; small = s.0; columns = tables_kept 0 tables objects b.0 rows.counts b.1 } in
     let moved : IsStored tables a.0 b.0 = subst (λ (r : List ℕ). IsStored tables r b.0) s.1 stored in
-    subst (λ (x : Witness). IsStored tables x.rows x.bytes) g.1 moved
+    subst (λ (x : WitnessData). IsStored tables x.rows x.bytes) g.1 moved
 
-pub witness_kept : (tables : List TableShape) (file : List ℕ) (w : Witness) → witness_of tables file ≡ Ok w → IsStored tables w.rows w.bytes
+pub witness_kept : (tables : List TableShape) (file : List ℕ) (w : WitnessData) → witness_of tables file ≡ Ok w → IsStored tables w.rows w.bytes
 witness_kept tables file w e =
     let third = λ (whole : Members). objects_of 0 tables whole >>= witness_of_objects tables whole in
     let second = λ (json : Data). or_refuse Whole NotAnObject (as_object json) >>= third in
@@ -187,11 +187,11 @@ witness_kept tables file w e =
 
 -- ---- values for each column
 
-is_column : (m : ℕ) (column : ColumnShape) (bytes : List ℕ) → number_of_bytes bytes < 2 ^ bits_of m column → IsColumn m column (column_values m column bytes)
+is_column : (m : ℕ) (column : ColumnShape) (bytes : List ℕ) → number_of_bytes bytes < 2 ^ written_bits m column → IsColumn m column (column_values m column bytes)
 is_column m column bytes h =
     let w = 2 ^ column.level in
     let n = m * 2 ^ column.log_values in
-    let k : w * n ≡ bits_of m column = mul_comm w n ∙ mul_assoc m (2 ^ column.log_values) w ∙ ap (λ x. m * x) (sym (pow-add 2 column.log_values column.level)) in
+    let k : w * n ≡ written_bits m column = mul_comm w n ∙ mul_assoc m (2 ^ column.log_values) w ∙ ap (λ x. m * x) (sym (pow-add 2 column.log_values column.level)) in
     let P : ℕ → Type 0 = λ x. number_of_bytes bytes < x in
     let below = subst P (sym (powers w n ∙ ap (λ x. 2 ^ x) k)) h in
     let Q : ℕ → Type 0 = λ x. x < 2 ^ w in
@@ -214,7 +214,7 @@ is_filling tables rows bytes stored = record {
   counts = stored.counts;
   few = stored.few;
   columns = λ t c table column e f.
-      let p = spelled_parts (slice_get bytes t) c (λ b. number_of_bytes b < 2 ^ bits_of (get_or rows t 0) column) (stored.columns t c table column e f) in
+      let p = spelled_parts (slice_get bytes t) c (λ b. number_of_bytes b < 2 ^ written_bits (get_or rows t 0) column) (stored.columns t c table column e f) in
       let is = the_column tables rows bytes t c table column p.0 p.1 stored.counts e f p.2 p.3 in
       subst (IsColumn (get_or rows t 0) column) (sym is) (is_column (get_or rows t 0) column p.1 p.4);
 }

@@ -8,11 +8,11 @@ pub mod CeilLog
 pub mod Bits
 pub mod ByteDigits
 pub mod ColumnValues
-pub mod Following
+pub mod ReadingSteps
 pub mod Padding
 pub mod Members
 pub mod KeptWitness
 pub mod GivenWitness
-pub mod Once
+pub mod OneAnswerDue
 pub mod Runs
 pub mod Verdicts

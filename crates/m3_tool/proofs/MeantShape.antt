@@ -16,11 +16,11 @@ use Rattle.m3_tool.specs.declared.shape.ConstraintShape.{ConstraintShape}
 use Rattle.m3_tool.specs.declared.shape.TableShape.{TableShape}
 use Rattle.m3_tool.specs.declared.resolve.ShapeFault.{ShapeFault}
 use Rattle.m3_tool.specs.declared.resolve.ShapeKind.TheVariants.{DoubleName, DegreeTooHigh, TooMany}
-use Rattle.m3_tool.specs.Steps.{◌>>=◌}
+use Rattle.m3_tool.specs.AndThen.{◌>>=◌}
 use Rattle.m3_tool.specs.Value.{degree}
 use Rattle.m3_tool.specs.Shape.{resolved, with_column, with_degree, with_constraint, with_items, begun_table, tables_of, shape_of}
 use Rattle.m3_tool.specs.ShapeMeaning.{columns_in, IsResolved, AreResolved, IsTable, AreTables, IsShape}
-use Rattle.m3_tool.proofs.Following.{bind_ok, bind_is}
+use Rattle.m3_tool.proofs.ReadingSteps.{bind_ok, bind_is}
 use Rattle.m3_tool.proofs.Members.{list_any-map}
 
 -- ---- names that differ

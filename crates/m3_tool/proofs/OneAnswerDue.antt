@@ -5,6 +5,7 @@ use Rattle.std.specs.Bool.{MatchBool}
 use Rattle.std.proofs.lemmas.Bool.Decides.{nat_tests}
 use Rattle.table_text.specs.declared.decl.Decl.{Decl}
 use Rattle.table_text.specs.declared.fault.TextFault.{TextFault}
+use Rattle.m3_tool.specs.Limits.{max_tables_file, max_witness_file}
 use Rattle.m3_tool.specs.declared.shape.TableShape.{TableShape}
 use Rattle.m3_tool.specs.declared.resolve.ShapeFault.{ShapeFault}
 use Rattle.m3_tool.specs.declared.witness.WitnessStop.{WitnessStop}
@@ -14,10 +15,10 @@ use Rattle.m3_tool.specs.declared.status.Status.TheVariants.{TooLong}
 use Rattle.m3_tool.specs.Shape.{shape_of}
 use Rattle.m3_tool.specs.Filling.{Filling}
 use Rattle.m3_tool.specs.Satisfies.{Satisfies, IsFirstViolation}
-use Rattle.m3_tool.specs.Witness.{Witness as Given, witness_of, filling_of}
+use Rattle.m3_tool.specs.Witness.{WitnessData, witness_of, filling_of}
 use Rattle.m3_tool.specs.Lines.{too_long_line}
-use Rattle.m3_tool.specs.Run.{Answer, answer, IsJudgement, IsWitnessAnswer, IsWitnessFileAnswer, IsShapeAnswer, IsTextAnswer, IsCheckAnswer, max_tables_file, max_witness_file, witness_refusal}
-use Rattle.m3_tool.specs.Answered.{IsReadOnce, IsFileReadOnce}
+use Rattle.m3_tool.specs.Run.{Answer, answer, IsJudgement, IsWitnessAnswer, IsWitnessFileAnswer, IsShapeAnswer, IsTextAnswer, IsCheckAnswer, witness_refusal}
+use Rattle.m3_tool.specs.Answer.{IsReadOnce, IsFileReadOnce}
 
 -- values that satisfy tables violate none
 apart : (tables : List TableShape) (rows : List ℕ) (filling : Filling) (v : Violation) → Satisfies tables rows filling → IsFirstViolation tables rows filling v → ⊥
@@ -33,9 +34,9 @@ judged_once tables rows filling a b (inl p) (inr (v, first, q)) = absurd (apart 
 judged_once tables rows filling a b (inr (v, first, p)) (inl q) = absurd (apart tables rows filling v q.0 first)
 judged_once tables rows filling a b (inr (v, first, p)) (inr (w, second, q)) = same_status _ _ _ a b p q
 
-witness_once : (tables : List TableShape) (r : Result Given WitnessStop) (a b : Answer)
-    → MatchResult r (λ (w : Given). IsJudgement tables w.rows (filling_of tables w) a) (λ stop. a ≡ witness_refusal stop)
-    → MatchResult r (λ (w : Given). IsJudgement tables w.rows (filling_of tables w) b) (λ stop. b ≡ witness_refusal stop) → b.status ≡ a.status
+witness_once : (tables : List TableShape) (r : Result WitnessData WitnessStop) (a b : Answer)
+    → MatchResult r (λ (w : WitnessData). IsJudgement tables w.rows (filling_of tables w) a) (λ stop. a ≡ witness_refusal stop)
+    → MatchResult r (λ (w : WitnessData). IsJudgement tables w.rows (filling_of tables w) b) (λ stop. b ≡ witness_refusal stop) → b.status ≡ a.status
 witness_once tables (Ok w) a b p q = judged_once tables w.rows (filling_of tables w) a b p q
 witness_once tables (Err stop) a b p q = ap (λ (x : Answer). x.status) (q ∙ sym p)
 

@@ -19,3 +19,8 @@ products_next V parts i part product all below is so_far =
 pub products_done : {X : Type 0} (V : X → ℕ) (parts : List X) (i product all : ℕ) → length parts ≤ i → mul product (product_all (map V (drop i parts))) ≡ all → product ≡ all
 products_done V parts i product all past so_far =
     sym (mul-one product) ∙ subst (λ ps. mul product (product_all (map V ps)) ≡ all) (drop_all i parts past) so_far
+
+-- the first factor is taken, and the others are left
+pub products_begin : {X : Type 0} (V : X → ℕ) (parts : List X) (first : X) (others : List X) (product : ℕ) → parts ≡ first ∷ others → product ≡ V first
+    → mul product (product_all (map V (drop 0 others))) ≡ product_all (map V parts)
+products_begin V parts first others product is taken = rw (is, taken) refl

@@ -6,7 +6,7 @@ use Rattle.m3_tool.specs.declared.shape.ColumnShape.{ColumnShape}
 use Rattle.m3_tool.specs.declared.shape.TableShape.{TableShape}
 use Rattle.m3_tool.specs.declared.witness.WitnessStop.{WitnessStop}
 use Rattle.m3_tool.specs.declared.witness.WitnessStop.TheVariants.{Fault, TooLarge, NoMemory}
-use Rattle.m3_tool.specs.Steps.{◌>>=◌}
+use Rattle.m3_tool.specs.AndThen.{◌>>=◌}
 use Rattle.m3_tool.specs.WitnessGives.{Stops}
 use Rattle.m3_tool.specs.Witness.{object_of, objects_of, column_bytes, columns_bytes, table_bytes, tables_bytes}
 use Rattle.m3_tool.proofs.Bits.{drop_here}

@@ -1,15 +1,17 @@
 -- What the answer to words says of a run.
-use Rattle.std.proofs.Common.{◌≡◌, ◌≢◌, ℕ, List, Option, Some, None, refl, sym, ◌∙◌, ap, subst, arith, inl, inr}
+use Rattle.std.proofs.Common.{◌≡◌, ◌≢◌, ℕ, List, true, false, Option, Some, None, refl, sym, ◌∙◌, ap, subst, arith, inl, inr}
 use Rattle.std.specs.Prelude.{IsTrue}
 use Rattle.byte_ends.specs.Shelf.{ShelfState, bytes_of, SameFaults, ReadsOnly}
 use Rattle.m3_tool.specs.declared.status.Status.{Status}
 use Rattle.m3_tool.specs.declared.status.Status.TheVariants.{Yes, No, Words, Tables, Witness, ReadFault, WriteFault, TooLarge, NoMemory, TooLong}
 use Rattle.m3_tool.specs.Command.{Command, check}
 use Rattle.m3_tool.specs.Checking.{EndsCheck}
-use Rattle.m3_tool.specs.Run.{Answer, answer, IsCheckAnswer, IsDue, is_outside}
-use Rattle.m3_tool.specs.Headline.{MayPut}
-use Rattle.m3_tool.specs.Answered.{IsFileReadOnce, IsAnswered}
-use Rattle.m3_tool.proofs.Once.{check_once}
+use Rattle.m3_tool.specs.Run.{Answer, answer, IsCheckAnswer, IsDue, fileless_answer, is_outside}
+use Rattle.m3_tool.specs.Lines.{satisfied_line}
+use Rattle.m3_tool.specs.Headline.{EndsWith, MayPut, SaysWhether}
+use Rattle.m3_tool.specs.Answer.{IsFileReadOnce, IsAnswered}
+use Rattle.m3_tool.proofs.OneAnswerDue.{check_once}
+use Rattle.m3_tool.proofs.Verdicts.{satisfied_due, violated_due}
 
 not_words : (s : Status) → EndsCheck s → s ≡ Words → ⊥
 not_words s ends is = subst EndsCheck is ends
@@ -30,7 +32,7 @@ pub checked : (c : Option Command) (tables witness : List ℕ) (old new : ShelfS
 checked c tables witness old new a is due once ends quiet reads_only = subst (λ (d : Option Command). IsAnswered d old new a) (sym is) (record {
   due = λ told inside. due told;
   only = λ told inside b also. check_once (bytes_of old tables) (bytes_of old witness) a b (once told) (due told) also;
-  words = λ e. absurd (some_none e);
+  fileless = λ b e. absurd (none_some e);
   fits = λ s. absurd (not_words a.status ends s);
   read_fault = λ s. absurd (not_reading a.status ends s);
   no_memory = λ s. absurd (not_memory a.status ends s);
@@ -39,8 +41,8 @@ checked c tables witness old new a is due once ends quiet reads_only = subst (λ
   reads_only = reads_only;
 })
   where
-    some_none : {X : Type 0} {x : X} → Some x ≡ None → ⊥
-    some_none e = cc
+    none_some : {X : Type 0} {x : X} → None ≡ Some x → ⊥
+    none_some e = cc
 
 pub no_fault : (shelf : ShelfState) → SameFaults shelf shelf
 no_fault shelf = record {
@@ -57,12 +59,12 @@ reads_nothing shelf = record {
 }
 
 -- a fixed text that is due whatever the files are
-pub printed : (c d : Option Command) (shelf : ShelfState) (line : List ℕ) (a : Answer) → c ≡ d → d ≢ None → ((b : Answer) → IsDue d shelf b → b ≡ answer Yes line) → IsDue d shelf a → a ≡ answer Yes line
+pub printed : (c d : Option Command) (shelf : ShelfState) (line : List ℕ) (a : Answer) → c ≡ d → d ≢ None → ((b : Answer) → IsDue d shelf b → b ≡ answer Yes line) → fileless_answer d ≡ Some (answer Yes line) → IsDue d shelf a → a ≡ answer Yes line
     → IsAnswered c shelf shelf a
-printed c d shelf line a is fits one due same = subst (λ (e : Option Command). IsAnswered e shelf shelf a) (sym is) (record {
+printed c d shelf line a is fits one at_once due same = subst (λ (e : Option Command). IsAnswered e shelf shelf a) (sym is) (record {
   due = λ told inside. due;
   only = λ told inside b also. ap (λ (x : Answer). x.status) (one b also ∙ sym same);
-  words = λ e. absurd (fits e);
+  fileless = λ b e. same ∙ some_same (sym at_once ∙ e);
   fits = λ s. absurd (yes_words (sym (ap (λ (x : Answer). x.status) same) ∙ s));
   read_fault = λ s. absurd (yes_reading (sym (ap (λ (x : Answer). x.status) same) ∙ s));
   no_memory = λ s. absurd (yes_memory (sym (ap (λ (x : Answer). x.status) same) ∙ s));
@@ -71,6 +73,9 @@ printed c d shelf line a is fits one due same = subst (λ (e : Option Command). 
   reads_only = reads_nothing shelf;
 })
   where
+    some_same : {x y : Answer} → Some x ≡ Some y → x ≡ y
+    some_same e = cc
+
     yes_words : Yes ≡ Words → ⊥
     yes_words e = cc
 
@@ -84,17 +89,32 @@ printed c d shelf line a is fits one due same = subst (λ (e : Option Command). 
     yes_memory e = cc
 
 -- what an answer puts is due, or is the line of a fault of the outside
-pub may_put : (c : Option Command) (old new : ShelfState) (a : Answer) → IsAnswered c old new a → MayPut c old a.line
+pub may_put : (c : Option Command) (old new : ShelfState) (a : Answer) → IsAnswered c old new a → MayPut c old new a.line
 may_put c old new a is =
-    elim a.status as (λ (s : Status). a.status ≡ s → MayPut c old a.line) [
+    elim a.status as (λ (s : Status). a.status ≡ s → MayPut c old new a.line) [
       | Yes ↦ λ e. inl (λ told. (a, is.due told (ap is_outside e), refl))
       | No ↦ λ e. inl (λ told. (a, is.due told (ap is_outside e), refl))
       | Words ↦ λ e. inl (λ told. (a, is.due told (ap is_outside e), refl))
       | Tables ↦ λ e. inl (λ told. (a, is.due told (ap is_outside e), refl))
       | Witness ↦ λ e. inl (λ told. (a, is.due told (ap is_outside e), refl))
-      | ReadFault ↦ λ e. inr (inl (is.read_fault e).1)
+      | ReadFault ↦ λ e. inr (inl (is.read_fault e))
       | WriteFault ↦ λ e. absurd (is.no_write e)
       | TooLarge ↦ λ e. inl (λ told. (a, is.due told (ap is_outside e), refl))
       | NoMemory ↦ λ e. inr (inr (is.no_memory e))
       | TooLong ↦ λ e. inl (λ told. (a, is.due told (ap is_outside e), refl))
     ] refl
+
+-- the status of an answer that is due, unless the outside ends the run
+ends_with : (c : Option Command) (old new : ShelfState) (a b : Answer) → IsAnswered c old new a → IsTrue old.told → IsDue c old b → EndsWith b.status a.status
+ends_with c old new a b is told due =
+    elim (is_outside a.status) as (λ t. is_outside a.status ≡ t → EndsWith b.status a.status) [
+      | true ↦ λ e. inr e
+      | false ↦ λ e. inl (sym (is.only told e b due))
+    ] refl
+
+-- a check whose files are accepted is answered by its verdict
+pub says_whether : (c : Option Command) (old new : ShelfState) (a : Answer) → IsAnswered c old new a → SaysWhether c old a.status
+says_whether c old new a is = record {
+  yes = λ tables witness e told s. ends_with c old new a (answer Yes satisfied_line) is told (subst (λ (d : Option Command). IsDue d old (answer Yes satisfied_line)) (sym e) (satisfied_due (bytes_of old tables) (bytes_of old witness) s));
+  no = λ tables witness line e told v. ends_with c old new a (answer No line) is told (subst (λ (d : Option Command). IsDue d old (answer No line)) (sym e) (violated_due (bytes_of old tables) (bytes_of old witness) line v));
+}

@@ -1,6 +1,8 @@
 -- What a shape keeps where something is added at an end.
 use Rattle.std.proofs.Common.{◌≡◌, ℕ, suc, ◌<◌, ◌≤◌, ◌+◌, List, [], ◌∷◌, ◌++◌, length, drop, get_or, Result, Ok, refl, sym, ◌∙◌, ap, subst, arith, length-append, drop-cons, add-one}
+use Rattle.table_text.specs.Limits.{max_declarations}
 use Rattle.table_text.specs.Valid.{LevelsFit, declarations}
+use Rattle.m3_tool.specs.Limits.{max_tables}
 use Rattle.m3_tool.specs.declared.resolve.ShapeFault.{ShapeFault}
 use Rattle.m3_tool.specs.declared.shape.ColumnShape.{ColumnShape}
 use Rattle.m3_tool.specs.declared.shape.ConstraintShape.{ConstraintShape}
@@ -8,7 +10,7 @@ use Rattle.m3_tool.specs.declared.shape.TableShape.{TableShape}
 use Rattle.table_text.specs.declared.decl.Item.{Item}
 use Rattle.table_text.specs.declared.decl.Decl.{Decl}
 use Rattle.table_text.specs.declared.decl.Decl.TheVariants.{Table}
-use Rattle.m3_tool.specs.Shape.{ColumnsFit, ConstraintsFit, TableFits, TablesFit, max_tables, begun_table, with_items, tables_of}
+use Rattle.m3_tool.specs.Shape.{ColumnsFit, ConstraintsFit, TableFits, TablesFit, begun_table, with_items, tables_of}
 
 pub ColumnsFit-push : (columns : List ColumnShape) (c : ColumnShape) → ColumnsFit columns → c.level ≤ 7 → c.log_values ≤ 7 → ColumnsFit (columns ++ c ∷ [])
 ColumnsFit-push [] c fit level log = (level, log, tt)
@@ -30,7 +32,7 @@ tables_of-table k n name items decls tables begun table h i e = rw (h, i, e) ref
 
 -- what is kept while tables are added: k is the number of the next declaration, of those that are left
 abbrev pub Adds : ℕ → List Decl → List TableShape → Result (List TableShape) ShapeFault → Type 0
-Adds k decls tables all = LevelsFit decls × k + declarations decls ≤ 65535 × TablesFit tables × length tables ≤ max_tables × tables_of k decls tables ≡ all
+Adds k decls tables all = LevelsFit decls × k + declarations decls ≤ max_declarations × TablesFit tables × length tables ≤ max_tables × tables_of k decls tables ≡ all
 
 adds_table : (k n : ℕ) (name : List ℕ) (items : List Item) (decls : List Decl) (tables new : List TableShape) (begun table : TableShape) (all : Result (List TableShape) ShapeFault)
     → Adds k (Table name items ∷ decls) tables all → begun_table k name tables ≡ Ok begun → with_items (k + 1) items begun ≡ Ok table → n ≡ k + (1 + length items)

@@ -1,9 +1,11 @@
 -- A check that answers Yes or No has read tables and a witness.
-use Rattle.std.proofs.Common.{◌≡◌, ℕ, List, length, Bool, true, false, Result, Ok, Err, refl, sym, ◌∙◌, ap, subst, inl, inr}
-use Rattle.std.specs.Prelude.{nat_lt, MatchResult}
+use Rattle.std.proofs.Common.{◌≡◌, ◌≤◌, ℕ, List, length, Bool, true, false, Result, Ok, Err, refl, sym, ◌∙◌, ap, subst, inl, inr, arith}
+use Rattle.std.specs.Prelude.{nat_lt, IsTrue, MatchResult}
 use Rattle.std.specs.Bool.{MatchBool}
+use Rattle.std.proofs.lemmas.Bool.Decides.{nat_tests}
 use Rattle.table_text.specs.declared.decl.Decl.{Decl}
 use Rattle.table_text.specs.Faults.{IsTablesText}
+use Rattle.m3_tool.specs.Limits.{max_tables_file, max_witness_file}
 use Rattle.m3_tool.specs.declared.shape.TableShape.{TableShape}
 use Rattle.m3_tool.specs.declared.resolve.ShapeFault.{ShapeFault}
 use Rattle.m3_tool.specs.declared.witness.WitnessStop.{WitnessStop}
@@ -11,11 +13,18 @@ use Rattle.m3_tool.specs.declared.witness.WitnessStop.TheVariants as stop
 use Rattle.m3_tool.specs.declared.status.Status.{Status}
 use Rattle.m3_tool.specs.declared.status.Status.TheVariants.{Yes, No, Words, Tables, Witness, ReadFault, WriteFault, TooLarge, NoMemory, TooLong}
 use Rattle.m3_tool.specs.Shape.{shape_of}
-use Rattle.m3_tool.specs.ShapeMeaning.{IsShape}
-use Rattle.m3_tool.specs.Witness.{Witness as Given, witness_of, filling_of}
-use Rattle.m3_tool.specs.Given.{GivesWitness}
+use Rattle.m3_tool.specs.Witness.{WitnessData, witness_of, filling_of}
 use Rattle.m3_tool.specs.Lines.{satisfied_line, too_long_line, shape_fault_line}
-use Rattle.m3_tool.specs.Run.{Answer, answer, IsJudgement, IsWitnessAnswer, IsWitnessFileAnswer, IsTextAnswer, IsCheckAnswer, IsSatisfied, IsViolated, max_tables_file, max_witness_file, witness_refusal}
+use Rattle.m3_tool.specs.Run.{Answer, answer, CheckReadsFailed, IsJudgement, IsWitnessAnswer, IsWitnessFileAnswer, IsTextAnswer, IsCheckAnswer, HasShape, HasWitness, IsSatisfied, IsViolated, witness_refusal}
+use Rattle.m3_tool.specs.declared.check.Shaped.TheVariants as shaped
+use Rattle.m3_tool.specs.declared.check.Shaped.{Shaped}
+use Rattle.m3_tool.specs.declared.check.Stop.{Stop}
+use Rattle.m3_tool.specs.declared.check.Stop.TheVariants as ended
+use Rattle.m3_tool.specs.declared.answer.Answer.{Answer as OwnAnswer}
+use Rattle.m3_tool.specs.Checking.{IsShapedFile, OnReadFault}
+use Rattle.byte_ends.specs.Shelf.{ShelfState, bytes_of, ReadFailed, ReadsOnly, SameFaults}
+use Rattle.byte_ends.proofs.ReadSteps.{failed_since}
+use Rattle.m3_tool.proofs.AnswerSteps.{within_tables, within_witness}
 use Rattle.m3_tool.proofs.MeantShape.{shaped_where_meant}
 use Rattle.m3_tool.proofs.GivenWitness.{read_where_given}
 
@@ -35,6 +44,9 @@ IsVerdictStatus TooLong = ⊥
 verdict_of : (a b : Answer) → a ≡ b → IsVerdictStatus a.status → IsVerdictStatus b.status
 verdict_of a b e h = subst (λ (x : Answer). IsVerdictStatus x.status) e h
 
+not_longer : (limit len : ℕ) → nat_lt limit len ≡ false → len ≤ limit
+not_longer limit len e = grind (arith, nat_tests)
+
 refusal : (s : WitnessStop) → IsVerdictStatus (witness_refusal s).status → ⊥
 refusal (stop.Fault fault) h = h
 refusal (stop.TooLarge log_bits) h = h
@@ -42,47 +54,39 @@ refusal stop.NoMemory h = h
 
 -- tables and a witness were read, and the witness was judged
 record IsJudged (text witness : List ℕ) (a : Answer) : Type 0 where
-  decls : List Decl
-  tables : List TableShape
-  given : Given
-  text_is : IsTablesText text decls
-  shape_is : IsShape decls tables
-  witness_is : GivesWitness tables witness given
-  judgement : IsJudgement tables given.rows (filling_of tables given) a
+  read : HasWitness text witness
+  judgement : IsJudgement read.shape.tables read.given.rows (filling_of read.shape.tables read.given) a
 
-of_witness : (text witness : List ℕ) (decls : List Decl) (shape : List TableShape) (a : Answer) (r : Result Given WitnessStop) → IsTablesText text decls → shape_of decls ≡ Ok shape → witness_of shape witness ≡ r
-    → MatchResult r (λ (w : Given). IsJudgement shape w.rows (filling_of shape w) a) (λ stop. a ≡ witness_refusal stop) → IsVerdictStatus a.status → IsJudged text witness a
-of_witness text witness decls shape a (Ok w) is shaped read p h = record {
-  decls = decls;
-  tables = shape;
-  given = w;
-  text_is = is;
-  shape_is = (shaped_where_meant decls shape).0 shaped;
-  witness_is = (read_where_given shape witness w).0 read;
+of_witness : (text witness : List ℕ) (shape : HasShape text) (a : Answer) (r : Result WitnessData WitnessStop) → length witness ≤ max_witness_file → witness_of shape.tables witness ≡ r
+    → MatchResult r (λ (w : WitnessData). IsJudgement shape.tables w.rows (filling_of shape.tables w) a) (λ stop. a ≡ witness_refusal stop) → IsVerdictStatus a.status → IsJudged text witness a
+of_witness text witness shape a (Ok w) within read p h = record {
+  read = record { shape = shape; given = w; within = within; witness_is = (read_where_given shape.tables witness w).0 read };
   judgement = p;
 }
-of_witness text witness decls shape a (Err s) is shaped read p h = absurd (refusal s (verdict_of a (witness_refusal s) p h))
+of_witness text witness shape a (Err s) within read p h = absurd (refusal s (verdict_of a (witness_refusal s) p h))
 
-of_file : (text witness : List ℕ) (decls : List Decl) (shape : List TableShape) (a : Answer) (t : Bool) → IsTablesText text decls → shape_of decls ≡ Ok shape
-    → MatchBool t (a ≡ answer TooLong (too_long_line max_witness_file)) (IsWitnessAnswer shape witness a) → IsVerdictStatus a.status → IsJudged text witness a
-of_file text witness decls shape a true is shaped p h = absurd (verdict_of a (answer TooLong (too_long_line max_witness_file)) p h)
-of_file text witness decls shape a false is shaped p h = of_witness text witness decls shape a (witness_of shape witness) is shaped refl p h
+of_file : (text witness : List ℕ) (shape : HasShape text) (a : Answer) (t : Bool) → nat_lt max_witness_file (length witness) ≡ t
+    → MatchBool t (a ≡ answer TooLong (too_long_line max_witness_file)) (IsWitnessAnswer shape.tables witness a) → IsVerdictStatus a.status → IsJudged text witness a
+of_file text witness shape a true long p h = absurd (verdict_of a (answer TooLong (too_long_line max_witness_file)) p h)
+of_file text witness shape a false long p h = of_witness text witness shape a (witness_of shape.tables witness) (not_longer max_witness_file (length witness) long) refl p h
 
-of_shape : (text witness : List ℕ) (decls : List Decl) (a : Answer) (r : Result (List TableShape) ShapeFault) → IsTablesText text decls → shape_of decls ≡ r
+of_shape : (text witness : List ℕ) (decls : List Decl) (a : Answer) (r : Result (List TableShape) ShapeFault) → length text ≤ max_tables_file → IsTablesText text decls → shape_of decls ≡ r
     → MatchResult r (λ shape. IsWitnessFileAnswer shape witness a) (λ fault. a ≡ answer Tables (shape_fault_line fault)) → IsVerdictStatus a.status → IsJudged text witness a
-of_shape text witness decls a (Ok shape) is shaped p h = of_file text witness decls shape a (nat_lt max_witness_file (length witness)) is shaped p h
-of_shape text witness decls a (Err fault) is shaped p h = absurd (verdict_of a (answer Tables (shape_fault_line fault)) p h)
+of_shape text witness decls a (Ok tables) within is shaped p h =
+    of_file text witness (record { decls = decls; tables = tables; within = within; text_is = is; shape_is = (shaped_where_meant decls tables).0 shaped }) a (nat_lt max_witness_file (length witness)) refl p h
+of_shape text witness decls a (Err fault) within is shaped p h = absurd (verdict_of a (answer Tables (shape_fault_line fault)) p h)
 
-of_text : (text witness : List ℕ) (a : Answer) → IsTextAnswer text witness a → IsVerdictStatus a.status → IsJudged text witness a
-of_text text witness a (inl (fault, is, p)) h = absurd (verdict_of a _ p h)
-of_text text witness a (inr (decls, is, p)) h = of_shape text witness decls a (shape_of decls) is refl p h
+of_text : (text witness : List ℕ) (a : Answer) → length text ≤ max_tables_file → IsTextAnswer text witness a → IsVerdictStatus a.status → IsJudged text witness a
+of_text text witness a within (inl (fault, is, p)) h = absurd (verdict_of a _ p h)
+of_text text witness a within (inr (decls, is, p)) h = of_shape text witness decls a (shape_of decls) within is refl p h
 
-of_tables : (text witness : List ℕ) (a : Answer) (t : Bool) → MatchBool t (a ≡ answer TooLong (too_long_line max_tables_file)) (IsTextAnswer text witness a) → IsVerdictStatus a.status → IsJudged text witness a
-of_tables text witness a true p h = absurd (verdict_of a (answer TooLong (too_long_line max_tables_file)) p h)
-of_tables text witness a false p h = of_text text witness a p h
+of_tables : (text witness : List ℕ) (a : Answer) (t : Bool) → nat_lt max_tables_file (length text) ≡ t → MatchBool t (a ≡ answer TooLong (too_long_line max_tables_file)) (IsTextAnswer text witness a) → IsVerdictStatus a.status
+    → IsJudged text witness a
+of_tables text witness a true long p h = absurd (verdict_of a (answer TooLong (too_long_line max_tables_file)) p h)
+of_tables text witness a false long p h = of_text text witness a (not_longer max_tables_file (length text) long) p h
 
 judged : (text witness : List ℕ) (a : Answer) → IsCheckAnswer text witness a → IsVerdictStatus a.status → IsJudged text witness a
-judged text witness a p h = of_tables text witness a (nat_lt max_tables_file (length text)) p h
+judged text witness a p h = of_tables text witness a (nat_lt max_tables_file (length text)) refl p h
 
 yes_or_no : (a : Answer) (s : Status) → a.status ≡ s → IsVerdictStatus s → IsVerdictStatus a.status
 yes_or_no a s e h = subst IsVerdictStatus (sym e) h
@@ -93,26 +97,50 @@ apart e = cc
 pub satisfied : (text witness : List ℕ) (a : Answer) → IsCheckAnswer text witness a → a.status ≡ Yes → IsSatisfied text witness × (a.line ≡ satisfied_line)
 satisfied text witness a p is_yes = let j = judged text witness a p (yes_or_no a Yes is_yes tt) in by_judgement j j.judgement
   where
-    by_judgement : (j : IsJudged text witness a) → IsJudgement j.tables j.given.rows (filling_of j.tables j.given) a → IsSatisfied text witness × (a.line ≡ satisfied_line)
-    by_judgement j (inl q) = (
-      record { decls = j.decls; tables = j.tables; given = j.given; text_is = j.text_is; shape_is = j.shape_is; witness_is = j.witness_is; satisfies = q.0 },
-      ap (λ (x : Answer). x.line) q.1,
-    )
+    by_judgement : (j : IsJudged text witness a) → IsJudgement j.read.shape.tables j.read.given.rows (filling_of j.read.shape.tables j.read.given) a → IsSatisfied text witness × (a.line ≡ satisfied_line)
+    by_judgement j (inl q) = (record { read = j.read; satisfies = q.0 }, ap (λ (x : Answer). x.line) q.1)
     by_judgement j (inr (v, first, q)) = absurd (apart (sym is_yes ∙ ap (λ (x : Answer). x.status) q))
 
 pub violated : (text witness : List ℕ) (a : Answer) → IsCheckAnswer text witness a → a.status ≡ No → IsViolated text witness a.line
 violated text witness a p is_no = let j = judged text witness a p (yes_or_no a No is_no tt) in by_judgement j j.judgement
   where
-    by_judgement : (j : IsJudged text witness a) → IsJudgement j.tables j.given.rows (filling_of j.tables j.given) a → IsViolated text witness a.line
+    by_judgement : (j : IsJudged text witness a) → IsJudgement j.read.shape.tables j.read.given.rows (filling_of j.read.shape.tables j.read.given) a → IsViolated text witness a.line
     by_judgement j (inl q) = absurd (apart (sym (ap (λ (x : Answer). x.status) q.1) ∙ is_no))
-    by_judgement j (inr (v, first, q)) = record {
-      decls = j.decls;
-      tables = j.tables;
-      given = j.given;
-      text_is = j.text_is;
-      shape_is = j.shape_is;
-      witness_is = j.witness_is;
-      violation = v;
-      first = first;
-      line_is = ap (λ (x : Answer). x.line) q;
-    }
+    by_judgement j (inr (v, first, q)) = record { read = j.read; violation = v; first = first; line_is = ap (λ (x : Answer). x.line) q }
+
+-- what the values are judged to be is due to the files that give them
+judgement_due : (text witness : List ℕ) (a : Answer) (read : HasWitness text witness) → IsJudgement read.shape.tables read.given.rows (filling_of read.shape.tables read.given) a → IsCheckAnswer text witness a
+judgement_due text witness a read judged =
+    let shaped = (shaped_where_meant read.shape.decls read.shape.tables).1 read.shape.shape_is in
+    let given = (read_where_given read.shape.tables witness read.given).1 read.witness_is in
+    let witness_due : IsWitnessAnswer read.shape.tables witness a =
+    subst (λ (r : Result WitnessData WitnessStop). MatchResult r (λ (w : WitnessData). IsJudgement read.shape.tables w.rows (filling_of read.shape.tables w) a) (λ stop. a ≡ witness_refusal stop)) (sym given) judged in
+    let file_due = within_witness read.shape.tables witness a read.within witness_due in
+    within_tables text witness a read.shape.within
+    (inr (
+      read.shape.decls,
+      read.shape.text_is,
+      subst (λ (r : Result (List TableShape) ShapeFault). MatchResult r (λ ts. IsWitnessFileAnswer ts witness a) (λ fault. a ≡ answer Tables (shape_fault_line fault))) (sym shaped) file_due,
+    ))
+
+pub satisfied_due : (text witness : List ℕ) → IsSatisfied text witness → IsCheckAnswer text witness (answer Yes satisfied_line)
+satisfied_due text witness is = judgement_due text witness (answer Yes satisfied_line) is.read (inl (is.satisfies, refl))
+
+pub violated_due : (text witness line : List ℕ) → IsViolated text witness line → IsCheckAnswer text witness (answer No line)
+violated_due text witness line is = judgement_due text witness (answer No line) is.read (inr (is.violation, is.first, ap (answer No) is.line_is))
+
+-- the file of tables whose shape was found
+pub has_shape : (text : List ℕ) (tables : List TableShape) → IsShapedFile text (shaped.Shape tables) → HasShape text
+has_shape text tables (within, once, (decls, is, shape)) = record { decls = decls; tables = tables; within = within; text_is = is; shape_is = (shaped_where_meant decls tables).0 shape }
+
+on_read_fault : {X : Type 0} (r : Result X Stop) (P Q : Type 0) → (P → Q) → OnReadFault r P → OnReadFault r Q
+on_read_fault (Ok x) P Q f p = p
+on_read_fault (Err ended.ReadFault) P Q f p = f p
+on_read_fault (Err ended.NoMemory) P Q f p = p
+
+-- a read of the witness that failed after the shape was found
+pub witness_read_failed : (old mid new : ShelfState) (tables witness : List ℕ) (shape : Shaped) (shapes : List TableShape) (r : Result OwnAnswer Stop) → shape ≡ shaped.Shape shapes
+    → (IsTrue old.told → IsShapedFile (bytes_of old tables) shape) → ReadsOnly old mid → SameFaults old mid → OnReadFault r (ReadFailed mid new witness) → OnReadFault r (CheckReadsFailed old new tables witness)
+witness_read_failed old mid new tables witness shape shapes r is found kept same failed =
+    on_read_fault r (ReadFailed mid new witness) (CheckReadsFailed old new tables witness)
+    (λ f. inr (failed_since kept same f, λ told. has_shape (bytes_of old tables) shapes (subst (IsShapedFile (bytes_of old tables)) is (found told)))) failed

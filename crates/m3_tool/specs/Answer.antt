@@ -1,23 +1,24 @@
 -- What the program's own answers stand for.
 -- Source: docs/ARCHITECTURE.md, "Within m3_tool".
-use Rattle.std.specs.Prelude.{◌≡◌, ◌≢◌, ◌≤◌, ℕ, false, IsTrue, List, length, Option, None, Result, Ok, Err}
+use Rattle.std.specs.Prelude.{◌≡◌, ◌≢◌, ◌≤◌, ℕ, false, IsTrue, List, length, Option, Some, None, Result, Ok, Err}
 use Rattle.table_text.specs.declared.decl.Decl.{Decl}
 use Rattle.table_text.specs.declared.fault.TextFault.{TextFault}
 use Rattle.table_text.specs.Faults.{IsTablesText, IsFirstFault}
+use Rattle.m3_tool.specs.Limits.{max_tables_file}
 use Rattle.m3_tool.specs.declared.answer.Text.{Text}
 use Rattle.m3_tool.specs.declared.answer.Text.TheVariants.{Fixed, Made}
-use Rattle.m3_tool.specs.declared.answer.Answer.{Answer as Given}
-use Rattle.m3_tool.specs.Run.{Answer, answer, IsDue, ReadsFailed, is_outside, max_tables_file}
+use Rattle.m3_tool.specs.declared.answer.Answer.{Answer as OwnAnswer}
+use Rattle.m3_tool.specs.Run.{Answer, answer, IsDue, ReadsFailed, fileless_answer, is_outside}
 use Rattle.byte_ends.specs.Shelf.{ShelfState, SameFaults, ReadsOnly}
 use Rattle.m3_tool.specs.declared.status.Status.TheVariants.{Words, ReadFault, WriteFault, NoMemory}
 use Rattle.m3_tool.specs.Command.{Command}
-use Rattle.m3_tool.specs.Lines.{words_line, read_fault_line, no_memory_line}
+use Rattle.m3_tool.specs.Lines.{read_fault_line, no_memory_line}
 
 abbrev pub line_of : Text → List ℕ
 line_of (Fixed text) = text.now
 line_of (Made text) = text.items
 
-abbrev pub answer_of : Given → Answer
+abbrev pub answer_of : OwnAnswer → Answer
 answer_of a = answer a.status (line_of a.text)
 
 -- a text is read in one way: it has declarations or a first fault, and no others
@@ -34,7 +35,7 @@ IsFileReadOnce text = length text ≤ max_tables_file → IsReadOnce text
 pub record IsAnswered (c : Option Command) (old new : ShelfState) (a : Answer) : Type 0 where
   pub due : IsTrue old.told → is_outside a.status ≡ false → IsDue c old a
   pub only : IsTrue old.told → is_outside a.status ≡ false → (b : Answer) → IsDue c old b → b.status ≡ a.status
-  pub words : c ≡ None → a ≡ answer Words words_line
+  pub fileless : (b : Answer) → fileless_answer c ≡ Some b → a ≡ b
   pub fits : a.status ≡ Words → c ≡ None
   pub read_fault : a.status ≡ ReadFault → ReadsFailed c old new × (a.line ≡ read_fault_line)
   pub no_memory : a.status ≡ NoMemory → a.line ≡ no_memory_line

@@ -3,15 +3,16 @@
 use Rattle.std.specs.Prelude.{◌≡◌, ◌≤◌, ℕ, List, length, Result, Ok, Err}
 use Rattle.table_text.specs.declared.decl.Decl.{Decl}
 use Rattle.table_text.specs.Faults.{IsTablesText}
+use Rattle.m3_tool.specs.Limits.{max_tables_file}
 use Rattle.m3_tool.specs.declared.check.Shaped.{Shaped}
 use Rattle.m3_tool.specs.declared.check.Shaped.TheVariants as shaped
 use Rattle.m3_tool.specs.declared.status.Status.{Status}
 use Rattle.m3_tool.specs.declared.status.Status.TheVariants.{Yes, No, Words, Tables, Witness, ReadFault, WriteFault, TooLarge, NoMemory, TooLong}
 use Rattle.m3_tool.specs.Shape.{shape_of}
-use Rattle.m3_tool.specs.Run.{IsTextAnswer, IsCheckAnswer, max_tables_file}
+use Rattle.m3_tool.specs.Run.{IsTextAnswer, IsCheckAnswer}
 use Rattle.m3_tool.specs.declared.check.Stop.{Stop}
 use Rattle.m3_tool.specs.declared.check.Stop.TheVariants as stop
-use Rattle.m3_tool.specs.Answered.{answer_of, IsFileReadOnce}
+use Rattle.m3_tool.specs.Answer.{answer_of, IsFileReadOnce}
 
 -- the text of a shape, or the answer to a text that has none, whatever the witness is
 abbrev pub IsShaped : List ℕ → Shaped → Type 0

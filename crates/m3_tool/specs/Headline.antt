@@ -1,14 +1,14 @@
 -- What a run promises.
 -- Source: docs/FORMATS.md, "Commands" and "What is printed"; docs/ENDS.md, "What the calls do".
-use Rattle.std.specs.Prelude.{◌≡◌, ℕ, ◌⊎◌, IsTrue, List, Option, Some}
+use Rattle.std.specs.Prelude.{◌≡◌, ◌≢◌, ℕ, ◌⊎◌, IsTrue, List, Option, Some}
 use Rattle.byte_ends.specs.Counts.{Rose}
 use Rattle.byte_ends.specs.Shelf.{ShelfState, bytes_of}
 use Rattle.byte_ends.specs.Sink.{SinkState, Puts, PutsPrefix}
 use Rattle.m3_tool.specs.declared.status.Status.{Status}
-use Rattle.m3_tool.specs.declared.status.Status.TheVariants.{Yes, No, Words, WriteFault}
+use Rattle.m3_tool.specs.declared.status.Status.TheVariants.{Yes, No, ReadFault, WriteFault}
 use Rattle.m3_tool.specs.Command.{Command, check}
-use Rattle.m3_tool.specs.Lines.{satisfied_line, words_line, read_fault_line, no_memory_line}
-use Rattle.m3_tool.specs.Run.{Answer, IsDue, IsSatisfied, IsViolated}
+use Rattle.m3_tool.specs.Lines.{satisfied_line, read_fault_line, no_memory_line}
+use Rattle.m3_tool.specs.Run.{Answer, IsDue, IsSatisfied, IsViolated, ReadsFailed, fileless_answer, is_outside}
 
 -- the answer that is due has this status, and its line was put
 pub record PutsDue (c : Option Command) (shelf : ShelfState) (old new : SinkState) (status : Status) : Type 0 where
@@ -31,16 +31,31 @@ abbrev pub SaysViolated : Option Command → ShelfState → SinkState → SinkSt
 SaysViolated c shelf old new status =
     (tables witness : List ℕ) → c ≡ Some (check tables witness) → IsTrue shelf.told → status ≡ No → (line : List ℕ) × IsViolated (bytes_of shelf tables) (bytes_of shelf witness) line × Puts old new line
 
--- words that fit no command are refused, unless a write fails
-abbrev pub RefusesWords : SinkState → SinkState → Status → Type 0
-RefusesWords old new status = ((status ≡ Words) × Puts old new words_line) ⊎ ((status ≡ WriteFault) × Rose old.faults new.faults)
+-- words that name no file have their answer, whatever the shelf tells, unless a write fails
+abbrev pub AnswersWords : Option Command → SinkState → SinkState → Status → Type 0
+AnswersWords c old new status = (a : Answer) → fileless_answer c ≡ Some a → ((status ≡ a.status) × Puts old new a.line) ⊎ ((status ≡ WriteFault) × Rose old.faults new.faults)
 
--- a line that a run may put: the one that is due where the files are told, or that of a fault of the outside
-abbrev pub MayPut : Option Command → ShelfState → List ℕ → Type 0
-MayPut c shelf line = (IsTrue shelf.told → (a : Answer) × IsDue c shelf a × (line ≡ a.line)) ⊎ ((line ≡ read_fault_line) ⊎ (line ≡ no_memory_line))
+-- a run ends with this status, or with one of the outside
+abbrev pub EndsWith : Status → Status → Type 0
+EndsWith expected status = (status ≡ expected) ⊎ IsTrue (is_outside status)
+
+-- a check whose files are accepted says whether the witness satisfies the tables, unless the outside ends the run
+pub record SaysWhether (c : Option Command) (shelf : ShelfState) (status : Status) : Type 0 where
+  pub yes : (tables witness : List ℕ) → c ≡ Some (check tables witness) → IsTrue shelf.told → IsSatisfied (bytes_of shelf tables) (bytes_of shelf witness) → EndsWith Yes status
+  pub no : (tables witness line : List ℕ) → c ≡ Some (check tables witness) → IsTrue shelf.told → IsViolated (bytes_of shelf tables) (bytes_of shelf witness) line → EndsWith No status
+
+-- where no count of faults rose, the outside ends a run by want of memory alone
+abbrev pub IsUndisturbed : ShelfState → ShelfState → SinkState → SinkState → Status → Type 0
+IsUndisturbed old_shelf new_shelf old_sink new_sink status =
+    ¬ Rose old_shelf.read_faults new_shelf.read_faults → ¬ Rose old_sink.faults new_sink.faults → (status ≢ ReadFault) × (status ≢ WriteFault)
+
+-- a line that a run may put: the one that is due where the files are told, that of a read that failed, or that of want of memory
+abbrev pub MayPut : Option Command → ShelfState → ShelfState → List ℕ → Type 0
+MayPut c old new line =
+    (IsTrue old.told → (a : Answer) × IsDue c old a × (line ≡ a.line)) ⊎ ((ReadsFailed c old new × (line ≡ read_fault_line)) ⊎ (line ≡ no_memory_line))
 
 -- a first part of such a line was put
-pub record PutsPart (c : Option Command) (shelf : ShelfState) (old new : SinkState) : Type 0 where
+pub record PutsPart (c : Option Command) (old_shelf new_shelf : ShelfState) (old_sink new_sink : SinkState) : Type 0 where
   pub line : List ℕ
-  pub may : MayPut c shelf line
-  pub part : PutsPrefix old new line
+  pub may : MayPut c old_shelf new_shelf line
+  pub part : PutsPrefix old_sink new_sink line

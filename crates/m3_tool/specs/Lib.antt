@@ -1,4 +1,5 @@
-pub mod Steps
+pub mod AndThen
+pub mod Limits
 pub mod Size
 pub mod Value
 pub mod Shape
@@ -9,14 +10,14 @@ pub mod Filling
 pub mod Satisfies
 pub mod Witness
 pub mod WitnessGives
-pub mod Given
-pub mod Stored
+pub mod WitnessMeaning
+pub mod Store
 pub mod Judging
 pub mod Status
 pub mod Command
 pub mod Lines
 pub mod Run
-pub mod Answering
-pub mod Answered
+pub mod Words
+pub mod Answer
 pub mod Checking
 pub mod Headline

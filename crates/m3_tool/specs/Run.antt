@@ -1,11 +1,12 @@
 -- What is due to words, by the bytes of the files.
 -- Source: docs/FORMATS.md, "Commands", "What is printed" and "Limits".
-use Rattle.std.specs.Prelude.{◌≡◌, ℕ, ◌⊎◌, nat_lt, Bool, true, false, List, length, Option, Some, None, MatchResult}
+use Rattle.std.specs.Prelude.{◌≡◌, ℕ, ◌⊎◌, ◌≤◌, nat_lt, IsTrue, Bool, true, false, List, length, Option, Some, None, MatchResult}
 use Rattle.std.specs.Bool.{MatchBool}
 use Rattle.byte_ends.specs.Shelf.{ShelfState, bytes_of, ReadFailed}
 use Rattle.table_text.specs.declared.decl.Decl.{Decl}
 use Rattle.table_text.specs.declared.fault.TextFault.{TextFault}
 use Rattle.table_text.specs.Faults.{IsTablesText, IsFirstFault}
+use Rattle.m3_tool.specs.Limits.{max_tables_file, max_witness_file}
 use Rattle.m3_tool.specs.declared.shape.TableShape.{TableShape}
 use Rattle.m3_tool.specs.declared.judge.Violation.{Violation}
 use Rattle.m3_tool.specs.declared.witness.WitnessStop.{WitnessStop}
@@ -16,17 +17,10 @@ use Rattle.m3_tool.specs.Shape.{shape_of}
 use Rattle.m3_tool.specs.ShapeMeaning.{IsShape}
 use Rattle.m3_tool.specs.Filling.{Filling}
 use Rattle.m3_tool.specs.Satisfies.{Satisfies, IsFirstViolation}
-use Rattle.m3_tool.specs.Witness.{Witness as Given, witness_of, filling_of}
-use Rattle.m3_tool.specs.Given.{GivesWitness}
+use Rattle.m3_tool.specs.Witness.{WitnessData, witness_of, filling_of}
+use Rattle.m3_tool.specs.WitnessMeaning.{GivesWitness}
 use Rattle.m3_tool.specs.Command.{Command, check, help, version}
 use Rattle.m3_tool.specs.Lines.{satisfied_line, violation_line, text_fault_line, shape_fault_line, witness_fault_line, too_large_line, too_long_line, words_line, no_memory_line, help_text, version_line}
-
--- the most bytes that a file of tables may have, and a file of a witness
-abbrev pub max_tables_file : ℕ
-max_tables_file = 1048576
-
-abbrev pub max_witness_file : ℕ
-max_witness_file = 16777216
 
 -- how a run ends, and what it puts
 pub record Answer : Type 0 where
@@ -49,7 +43,7 @@ witness_refusal stop.NoMemory = answer NoMemory no_memory_line
 
 -- the witness is refused, or the values that it gives are judged
 abbrev pub IsWitnessAnswer : List TableShape → List ℕ → Answer → Type 0
-IsWitnessAnswer tables witness a = MatchResult (witness_of tables witness) (λ (w : Given). IsJudgement tables w.rows (filling_of tables w) a) (λ stop. a ≡ witness_refusal stop)
+IsWitnessAnswer tables witness a = MatchResult (witness_of tables witness) (λ (w : WitnessData). IsJudgement tables w.rows (filling_of tables w) a) (λ stop. a ≡ witness_refusal stop)
 
 -- a file of a witness is too long, or it is read
 abbrev pub IsWitnessFileAnswer : List TableShape → List ℕ → Answer → Type 0
@@ -75,6 +69,13 @@ IsDue (Some (check tables witness)) shelf a = IsCheckAnswer (bytes_of shelf tabl
 IsDue (Some help) shelf a = a ≡ answer Yes help_text
 IsDue (Some version) shelf a = a ≡ answer Yes version_line
 
+-- the answer to words that name no file
+abbrev pub fileless_answer : Option Command → Option Answer
+fileless_answer None = Some (answer Words words_line)
+fileless_answer (Some (check tables witness)) = None
+fileless_answer (Some help) = Some (answer Yes help_text)
+fileless_answer (Some version) = Some (answer Yes version_line)
+
 -- a status that the bytes of the files don't tell: a fault of the outside, or want of memory
 abbrev pub is_outside : Status → Bool
 is_outside ReadFault = true
@@ -88,35 +89,44 @@ is_outside Witness = false
 is_outside TooLarge = false
 is_outside TooLong = false
 
--- a read of one of two files has failed
-abbrev pub EitherReadFailed : ShelfState → ShelfState → List ℕ → List ℕ → Type 0
-EitherReadFailed old new first second = ReadFailed old new first ⊎ ReadFailed old new second
+-- a text of tables within its limit, that has declarations with a shape
+pub record HasShape (text : List ℕ) : Type 0 where
+  pub decls : List Decl
+  pub tables : List TableShape
+  pub within : length text ≤ max_tables_file
+  pub text_is : IsTablesText text decls
+  pub shape_is : IsShape decls tables
 
--- a read of a file that the command reads has failed
+-- such a text, and a witness within its limit that gives values to its columns
+pub record HasWitness (text witness : List ℕ) : Type 0 where
+  pub shape : HasShape text
+  pub given : WitnessData
+  pub within : length witness ≤ max_witness_file
+  pub witness_is : GivesWitness shape.tables witness given
+
+-- a witness that gives values which satisfy the tables
+pub record IsSatisfied (text witness : List ℕ) : Type 0 where
+  pub read : HasWitness text witness
+  pub satisfies : Satisfies read.shape.tables read.given.rows (filling_of read.shape.tables read.given)
+
+-- a witness that gives values which violate the tables, and the line that says where first
+pub record IsViolated (text witness line : List ℕ) : Type 0 where
+  pub read : HasWitness text witness
+  pub violation : Violation
+  pub first : IsFirstViolation read.shape.tables read.given.rows (filling_of read.shape.tables read.given) violation
+  pub line_is : line ≡ violation_line first.table first.constraint violation
+
+-- a read of a file has failed that is due: where the files are told, what the command reads before it is accepted
+abbrev pub DueReadFailed : ShelfState → ShelfState → List ℕ → Type 0 → Type 0
+DueReadFailed old new name Accepted = ReadFailed old new name × (IsTrue old.told → Accepted)
+
+-- a read that a check makes has failed, and was due
+abbrev pub CheckReadsFailed : ShelfState → ShelfState → List ℕ → List ℕ → Type 0
+CheckReadsFailed old new tables witness = ReadFailed old new tables ⊎ DueReadFailed old new witness (HasShape (bytes_of old tables))
+
+-- the same of any command
 abbrev pub ReadsFailed : Option Command → ShelfState → ShelfState → Type 0
 ReadsFailed None old new = ⊥
-ReadsFailed (Some (check tables witness)) old new = EitherReadFailed old new tables witness
+ReadsFailed (Some (check tables witness)) old new = CheckReadsFailed old new tables witness
 ReadsFailed (Some help) old new = ⊥
 ReadsFailed (Some version) old new = ⊥
-
--- a text of tables, and a witness that gives values which satisfy them
-pub record IsSatisfied (text witness : List ℕ) : Type 0 where
-  pub decls : List Decl
-  pub tables : List TableShape
-  pub given : Given
-  pub text_is : IsTablesText text decls
-  pub shape_is : IsShape decls tables
-  pub witness_is : GivesWitness tables witness given
-  pub satisfies : Satisfies tables given.rows (filling_of tables given)
-
--- a text of tables, a witness that gives values which violate them, and the line that says where first
-pub record IsViolated (text witness line : List ℕ) : Type 0 where
-  pub decls : List Decl
-  pub tables : List TableShape
-  pub given : Given
-  pub text_is : IsTablesText text decls
-  pub shape_is : IsShape decls tables
-  pub witness_is : GivesWitness tables witness given
-  pub violation : Violation
-  pub first : IsFirstViolation tables given.rows (filling_of tables given) violation
-  pub line_is : line ≡ violation_line first.table first.constraint violation

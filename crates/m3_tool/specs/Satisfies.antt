@@ -5,11 +5,11 @@ use Rattle.m3_tool.specs.declared.shape.ConstraintShape.{ConstraintShape}
 use Rattle.m3_tool.specs.declared.shape.TableShape.{TableShape}
 use Rattle.m3_tool.specs.declared.judge.Violation.{Violation}
 use Rattle.m3_tool.specs.Value.{value}
-use Rattle.m3_tool.specs.Filling.{Filling, values_of}
+use Rattle.m3_tool.specs.Filling.{Filling, values_at}
 
 -- the value of a constraint of table t at a row and an index
 abbrev pub value_at : Filling → ℕ → ConstraintShape → ℕ → ℕ → ℕ
-value_at filling t constraint row index = value (λ column. slice_index (values_of filling t column) (row * 2 ^ constraint.log_values + index)) constraint.expr
+value_at filling t constraint row index = value (values_at filling t (row * 2 ^ constraint.log_values + index)) constraint.expr
 
 -- a constraint is 0 at each index of each of the first rows
 abbrev pub IsZeroOnRows : Filling → ℕ → ConstraintShape → ℕ → Type 0

@@ -10,6 +10,8 @@ use Rattle.table_text.specs.declared.decl.Item.{Item}
 use Rattle.table_text.specs.declared.decl.Item.TheVariants as item
 use Rattle.table_text.specs.declared.decl.Decl.{Decl}
 use Rattle.table_text.specs.declared.decl.Decl.TheVariants as decl
+use Rattle.table_text.specs.Limits.{max_level, max_log_values}
+use Rattle.m3_tool.specs.Limits.{max_tables, max_columns, max_constraints, max_degree}
 use Rattle.m3_tool.specs.declared.shape.ColumnShape.{ColumnShape}
 use Rattle.m3_tool.specs.declared.shape.ShapeExpr.{ShapeExpr}
 use Rattle.m3_tool.specs.declared.shape.ShapeExpr.TheVariants as shaped
@@ -18,20 +20,8 @@ use Rattle.m3_tool.specs.declared.shape.TableShape.{TableShape}
 use Rattle.m3_tool.specs.declared.resolve.ShapeFault.{ShapeFault}
 use Rattle.m3_tool.specs.declared.resolve.ShapeKind.{ShapeKind}
 use Rattle.m3_tool.specs.declared.resolve.ShapeKind.TheVariants.{UnknownName, DoubleName, DegreeTooHigh, TooMany, NotBuilt}
-use Rattle.m3_tool.specs.Steps.{◌>>=◌}
+use Rattle.m3_tool.specs.AndThen.{◌>>=◌}
 use Rattle.m3_tool.specs.Value.{degree}
-
-abbrev pub max_tables : ℕ
-max_tables = 64
-
-abbrev pub max_columns : ℕ
-max_columns = 256
-
-abbrev pub max_constraints : ℕ
-max_constraints = 256
-
-abbrev pub max_degree : ℕ
-max_degree = 8
 
 -- the number of the column with this name
 abbrev pub number_of_name : List ℕ → List ColumnShape → Option ℕ
@@ -116,13 +106,13 @@ shape_of decls = tables_of 0 decls []
 
 abbrev pub ColumnsFit : List ColumnShape → Type 0
 ColumnsFit [] = Unit {0}
-ColumnsFit (c ∷ columns) = (c.level ≤ 7) × (c.log_values ≤ 7) × ColumnsFit columns
+ColumnsFit (c ∷ columns) = (c.level ≤ max_level) × (c.log_values ≤ max_log_values) × ColumnsFit columns
 
 abbrev pub ConstraintsFit : List ConstraintShape → Type 0
 ConstraintsFit [] = Unit {0}
-ConstraintsFit (z ∷ constraints) = (z.log_values ≤ 7) × ConstraintsFit constraints
+ConstraintsFit (z ∷ constraints) = (z.log_values ≤ max_log_values) × ConstraintsFit constraints
 
--- levels are at most 7, and so are the logarithms of numbers of values
+-- levels and the logarithms of numbers of values are within their limits
 pub record TableFits (table : TableShape) : Type 0 where
   pub few : length table.columns ≤ max_columns
   pub few_constraints : length table.constraints ≤ max_constraints

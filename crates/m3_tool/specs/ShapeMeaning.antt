@@ -8,11 +8,12 @@ use Rattle.table_text.specs.declared.decl.Item.{Item}
 use Rattle.table_text.specs.declared.decl.Item.TheVariants as item
 use Rattle.table_text.specs.declared.decl.Decl.{Decl}
 use Rattle.table_text.specs.declared.decl.Decl.TheVariants as decl
+use Rattle.m3_tool.specs.Limits.{max_tables, max_columns, max_constraints, max_degree}
 use Rattle.m3_tool.specs.declared.shape.ColumnShape.{ColumnShape}
 use Rattle.m3_tool.specs.declared.shape.ConstraintShape.{ConstraintShape}
 use Rattle.m3_tool.specs.declared.shape.TableShape.{TableShape}
 use Rattle.m3_tool.specs.Value.{degree}
-use Rattle.m3_tool.specs.Shape.{column_names, table_names, max_tables, max_columns, max_constraints, max_degree, resolved, shape_of}
+use Rattle.m3_tool.specs.Shape.{column_names, table_names, resolved, shape_of}
 
 -- the columns that items declare, in their order
 abbrev pub columns_in : List Item → List ColumnShape

@@ -29,7 +29,3 @@ tables_bits (table ∷ tables) (m ∷ rows) = columns_bits m table.columns + tab
 -- the least e such that all columns take at most 2 ^ e bits
 abbrev pub size_log : List TableShape → List ℕ → ℕ
 size_log tables rows = ceil_log (tables_bits tables rows)
-
--- the greatest size that is taken
-abbrev pub max_size_log : ℕ
-max_size_log = 24

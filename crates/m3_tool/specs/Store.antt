@@ -1,12 +1,13 @@
 -- What a store holds.
 -- Source: docs/ARCHITECTURE.md, "Within m3_tool".
 use Rattle.std.specs.Prelude.{ℕ, ◌≡◌, ◌^◌, ◌<◌, ◌≤◌, List, length, slice_get, slice_index, Option, Some, option_and_then, IsSomeAnd}
+use Rattle.m3_tool.specs.Limits.{max_rows, max_size_log}
 use Rattle.m3_tool.specs.declared.shape.ColumnShape.{ColumnShape}
 use Rattle.m3_tool.specs.declared.shape.TableShape.{TableShape}
-use Rattle.m3_tool.specs.Size.{size_log, max_size_log}
+use Rattle.m3_tool.specs.Size.{size_log}
 use Rattle.m3_tool.specs.Digits.{number_of_bytes}
-use Rattle.m3_tool.specs.Filling.{Filling, max_rows}
-use Rattle.m3_tool.specs.Witness.{bits_of}
+use Rattle.m3_tool.specs.Filling.{Filling}
+use Rattle.m3_tool.specs.Witness.{written_bits}
 
 pub record Stored : Type 0 where
   pub tables : List TableShape
@@ -23,4 +24,4 @@ pub record IsStored (tables : List TableShape) (rows : List ℕ) (bytes : List (
   pub few : (t : ℕ) → slice_index rows t ≤ max_rows
   pub small : size_log tables rows ≤ max_size_log
   pub columns : (t c : ℕ) (table : TableShape) (column : ColumnShape) → slice_get tables t ≡ Some table → slice_get table.columns c ≡ Some column
-      → IsSomeAnd (bytes_at bytes t c) (λ b. number_of_bytes b < 2 ^ bits_of (slice_index rows t) column)
+      → IsSomeAnd (bytes_at bytes t c) (λ b. number_of_bytes b < 2 ^ written_bits (slice_index rows t) column)

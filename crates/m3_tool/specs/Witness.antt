@@ -8,6 +8,7 @@ use Rattle.serde_json.specs.Data.{Data, Members, no_members, member}
 use Rattle.serde_json.specs.Read.{read}
 use Rattle.serde_json.specs.Find.{get_member, as_object, as_number, as_u64, as_str}
 use Rattle.hex.specs.Hex.{decode_of}
+use Rattle.m3_tool.specs.Limits.{max_rows, max_size_log}
 use Rattle.m3_tool.specs.declared.shape.ColumnShape.{ColumnShape}
 use Rattle.m3_tool.specs.declared.shape.TableShape.{TableShape}
 use Rattle.m3_tool.specs.declared.witness.WitnessPlace.{WitnessPlace}
@@ -16,12 +17,12 @@ use Rattle.m3_tool.specs.declared.witness.WitnessKind.{WitnessKind}
 use Rattle.m3_tool.specs.declared.witness.WitnessKind.TheVariants.{NotJson, NotAnObject, MissingTable, BadRows, MissingColumn, NotAText, BadHex, WrongLength, PaddingBits, ExtraColumn, ExtraTable}
 use Rattle.m3_tool.specs.declared.witness.WitnessStop.{WitnessStop}
 use Rattle.m3_tool.specs.declared.witness.WitnessStop.TheVariants.{Fault, TooLarge}
-use Rattle.m3_tool.specs.Steps.{◌>>=◌}
-use Rattle.m3_tool.specs.Size.{ceil_log, size_log, max_size_log}
+use Rattle.m3_tool.specs.AndThen.{◌>>=◌}
+use Rattle.m3_tool.specs.Size.{ceil_log, size_log}
 use Rattle.m3_tool.specs.Shape.{column_names, table_names}
 use Rattle.tower_laws.specs.Digits.{digits}
 use Rattle.m3_tool.specs.Digits.{number_of_bytes}
-use Rattle.m3_tool.specs.Filling.{Filling, max_rows}
+use Rattle.m3_tool.specs.Filling.{Filling}
 
 abbrev pub refuse : {X : Type 0} → WitnessPlace → WitnessKind → Result X WitnessStop
 refuse place kind = Err (Fault (record { place = place; kind = kind }))
@@ -60,8 +61,8 @@ abbrev pub rows_of_tables : List TableShape → Members → Result (List ℕ) Wi
 rows_of_tables tables whole = objects_of 0 tables whole >>= (λ objects. Ok (map (λ o. o.1) objects))
 
 -- the bits of a column's rows
-abbrev pub bits_of : ℕ → ColumnShape → ℕ
-bits_of rows column = rows * 2 ^ (column.log_values + column.level)
+abbrev pub written_bits : ℕ → ColumnShape → ℕ
+written_bits rows column = rows * 2 ^ (column.log_values + column.level)
 
 -- the values, as digits in base 2 ^ (2 ^ level) of the number that the bytes spell
 abbrev pub column_values : ℕ → ColumnShape → List ℕ → List ℕ
@@ -76,8 +77,8 @@ column_bytes t c rows column object =
     or_refuse (Column t c) MissingColumn (get_member column.name object) >>= (λ found.
     or_refuse (Column t c) NotAText (as_str found) >>= (λ text.
     or_refuse (Column t c) BadHex (hex_bytes text) >>= (λ bytes.
-    unless (length bytes == (bits_of rows column + 7) / 8) (Column t c) WrongLength bytes >>= (λ bytes.
-    unless (nat_lt (number_of_bytes bytes) (2 ^ bits_of rows column)) (Column t c) PaddingBits bytes))))
+    unless (length bytes == (written_bits rows column + 7) / 8) (Column t c) WrongLength bytes >>= (λ bytes.
+    unless (nat_lt (number_of_bytes bytes) (2 ^ written_bits rows column)) (Column t c) PaddingBits bytes))))
 
 -- those of the columns from number c on
 abbrev pub columns_bytes : ℕ → ℕ → ℕ → List ColumnShape → Members → Result (List (List ℕ)) WitnessStop
@@ -101,7 +102,7 @@ tables_bytes t (table ∷ tables) [] = Ok []
 tables_bytes t (table ∷ tables) (object ∷ objects) = table_bytes t table object >>= (λ bytes. tables_bytes (t + 1) tables objects >>= (λ more. Ok (bytes ∷ more)))
 
 -- how many rows each table has, and the bytes of each of its columns
-pub record Witness : Type 0 where
+pub record WitnessData : Type 0 where
   pub rows : List ℕ
   pub bytes : List (List (List ℕ))
 
@@ -109,14 +110,14 @@ abbrev pub within_size : List TableShape → List ℕ → Result (List ℕ) Witn
 within_size tables rows = if nat_lt max_size_log (size_log tables rows) then Err (TooLarge (size_log tables rows)) else Ok rows
 
 -- the witness whose tables have these objects
-abbrev pub witness_of_objects : List TableShape → Members → List (Members × ℕ) → Result Witness WitnessStop
+abbrev pub witness_of_objects : List TableShape → Members → List (Members × ℕ) → Result WitnessData WitnessStop
 witness_of_objects tables whole objects =
     within_size tables (map (λ o. o.1) objects) >>= (λ rows.
     tables_bytes 0 tables objects >>= (λ bytes.
     unless (not (has_other (table_names tables) whole)) Whole ExtraTable (record { rows = rows; bytes = bytes })))
 
 -- the witness that a file gives to tables, or the first fault in this order
-abbrev pub witness_of : List TableShape → List ℕ → Result Witness WitnessStop
+abbrev pub witness_of : List TableShape → List ℕ → Result WitnessData WitnessStop
 witness_of tables file =
     or_refuse Whole NotJson (json_of file) >>= (λ json.
     or_refuse Whole NotAnObject (as_object json) >>= (λ whole.
@@ -136,9 +137,9 @@ all_values (table ∷ tables) (m ∷ rows) [] = []
 all_values (table ∷ tables) (m ∷ rows) (b ∷ bytes) = table_values m table.columns b ∷ all_values tables rows bytes
 
 -- the values that a witness gives to the columns of tables
-abbrev pub filling_of : List TableShape → Witness → Filling
+abbrev pub filling_of : List TableShape → WitnessData → Filling
 filling_of tables w = all_values tables w.rows w.bytes
 
 -- the rows and values of the witness that a file gives to tables
 abbrev pub IsOf : List TableShape → List ℕ → List ℕ → Filling → Type 0
-IsOf tables file rows filling = (w : Witness) × (witness_of tables file ≡ Ok w) × (rows ≡ w.rows) × (filling ≡ filling_of tables w)
+IsOf tables file rows filling = (w : WitnessData) × (witness_of tables file ≡ Ok w) × (rows ≡ w.rows) × (filling ≡ filling_of tables w)

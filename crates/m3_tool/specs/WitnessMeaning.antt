@@ -3,12 +3,13 @@
 use Rattle.std.specs.Prelude.{◌≡◌, ◌↔◌, ℕ, ◌+◌, ◌/◌, ◌^◌, ◌<◌, ◌≤◌, false, List, [], ◌∷◌, length, codes, Some, Ok}
 use Rattle.serde_json.specs.Data.{Data, Members}
 use Rattle.serde_json.specs.Find.{get_member, as_object, as_str}
+use Rattle.m3_tool.specs.Limits.{max_size_log}
 use Rattle.m3_tool.specs.declared.shape.ColumnShape.{ColumnShape}
 use Rattle.m3_tool.specs.declared.shape.TableShape.{TableShape}
-use Rattle.m3_tool.specs.Size.{size_log, max_size_log}
+use Rattle.m3_tool.specs.Size.{size_log}
 use Rattle.m3_tool.specs.Shape.{column_names, table_names}
 use Rattle.m3_tool.specs.Digits.{number_of_bytes}
-use Rattle.m3_tool.specs.Witness.{Witness, json_of, rows_of, bits_of, hex_bytes, has_other, witness_of}
+use Rattle.m3_tool.specs.Witness.{WitnessData, json_of, rows_of, written_bits, hex_bytes, has_other, witness_of}
 
 -- a table's object has a text of hexadecimal digits for a column: as few bytes as hold the bits of all rows, and no other bit
 pub record GivesColumn (object : Members) (rows : ℕ) (column : ColumnShape) (bytes : List ℕ) : Type 0 where
@@ -17,8 +18,8 @@ pub record GivesColumn (object : Members) (rows : ℕ) (column : ColumnShape) (b
   pub is_there : get_member column.name object ≡ Some found
   pub is_text : as_str found ≡ Some text
   pub is_hex : hex_bytes text ≡ Some bytes
-  pub len : length bytes ≡ (bits_of rows column + 7) / 8
-  pub no_padding : number_of_bytes bytes < 2 ^ bits_of rows column
+  pub len : length bytes ≡ (written_bits rows column + 7) / 8
+  pub no_padding : number_of_bytes bytes < 2 ^ written_bits rows column
 
 -- so it has for each of these columns
 abbrev pub GivesColumns : Members → ℕ → List ColumnShape → List (List ℕ) → Type 0
@@ -47,7 +48,7 @@ GivesTables whole (table ∷ tables) (m ∷ rows) [] = ⊥
 GivesTables whole (table ∷ tables) (m ∷ rows) (b ∷ bytes) = GivesTable whole table m b × GivesTables whole tables rows bytes
 
 -- the file is JSON, an object with each table and nothing else, and all columns are within the limit
-pub record GivesWitness (tables : List TableShape) (file : List ℕ) (w : Witness) : Type 0 where
+pub record GivesWitness (tables : List TableShape) (file : List ℕ) (w : WitnessData) : Type 0 where
   pub json : Data
   pub whole : Members
   pub is_json : json_of file ≡ Some json
@@ -58,4 +59,4 @@ pub record GivesWitness (tables : List TableShape) (file : List ℕ) (w : Witnes
 
 -- a file is read as a witness exactly where it gives this one
 abbrev pub IsReadWhereGiven : Type 0
-IsReadWhereGiven = (tables : List TableShape) (file : List ℕ) (w : Witness) → (witness_of tables file ≡ Ok w) ↔ GivesWitness tables file w
+IsReadWhereGiven = (tables : List TableShape) (file : List ℕ) (w : WitnessData) → (witness_of tables file ≡ Ok w) ↔ GivesWitness tables file w

@@ -2,7 +2,7 @@
 
 ghost use Rattle.std.specs.Prelude.{◌≡◌};
 ghost use Rattle.m3_tool.specs.Run.{answer};
-ghost use Rattle.m3_tool.specs.Answered.{answer_of, line_of};
+ghost use Rattle.m3_tool.specs.Answer.{answer_of, line_of};
 
 use crate::status::Status;
 

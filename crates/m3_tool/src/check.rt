@@ -2,12 +2,13 @@
 
 ghost use Rattle.std.specs.Prelude.{◌≡◌, ◌<◌, ◌≤◌, ◌^◌, length, IfOk, OnOk, IsTrue};
 ghost use Rattle.byte_ends.specs.Shelf.{bytes_of, ReadFailed, ReadsOnly, SameFaults};
-ghost use Rattle.m3_tool.specs.Run.{EitherReadFailed, IsCheckAnswer, IsJudgement, IsWitnessAnswer, IsWitnessFileAnswer};
-ghost use Rattle.m3_tool.specs.Answered.{answer_of, IsFileReadOnce, IsReadOnce};
+ghost use Rattle.m3_tool.specs.Run.{CheckReadsFailed, IsCheckAnswer, IsJudgement, IsWitnessAnswer, IsWitnessFileAnswer};
+ghost use Rattle.m3_tool.specs.Answer.{answer_of, IsFileReadOnce, IsReadOnce};
 ghost use Rattle.m3_tool.specs.Checking.{EndsCheck, IsShaped, IsShapedFile, OnReadFault, RefusalEndsCheck, UnlessReadFault};
 
 use crate::answer::{Answer, fixed, made};
 use crate::judge::{Verdict, judge};
+use crate::limits::{MAX_TABLES_FILE, MAX_WITNESS_FILE};
 use crate::lines::{
     shape_fault_line, text_fault_line, too_large_line, too_long_line, violation_line,
     witness_fault_line,
@@ -20,12 +21,6 @@ use crate::witness::{WitnessStop, read_witness};
 use byte_ends::{Shelf, WholeStop, read_whole};
 use std::alloc::{AllocError, Global};
 use table_text::{TextStop, read_tables};
-
-/// The most bytes of a file of tables.
-pub const MAX_TABLES_FILE: u64 = 1_048_576;
-
-/// The most bytes of a file of a witness.
-pub const MAX_WITNESS_FILE: u64 = 16_777_216;
 
 /// The shape of a text, or the answer to a text that has none.
 #[derive(Drop)]
@@ -52,35 +47,42 @@ impl From<AllocError> for Stop {
     }
 }
 
-/// Whether the values satisfy the tables.
-fn judged(alloc: Global, store: &Store) -> Result<Answer, AllocError>
-    ensures judged { IfOk result (λ a. IsJudgement store.now.tables store.now.rows store.now.filling (answer_of a)) }
+/// Whether the witness in the second file satisfies the tables in the first.
+pub(crate) fn check<S: Shelf>(
+    alloc: Global,
+    shelf: &mut S,
+    tables: &str,
+    witness: &str,
+) -> Result<Answer, Stop>
+    ensures due { IsTrue (S.state shelf.old).told → IfOk result (λ a. IsCheckAnswer (bytes_of (S.state shelf.old) tables.now) (bytes_of (S.state shelf.old) witness.now) (answer_of a)) }
+    ensures once { IsTrue (S.state shelf.old).told → OnOk result (IsFileReadOnce (bytes_of (S.state shelf.old) tables.now)) }
     ensures kind { IfOk result (λ a. EndsCheck a.status) }
+    ensures failed { OnReadFault result (CheckReadsFailed (S.state shelf.old) (S.state shelf.new) tables.now witness.now) }
+    ensures quiet { UnlessReadFault result (SameFaults (S.state shelf.old) (S.state shelf.new)) }
+    ensures reads_only { ReadsOnly (S.state shelf.old) (S.state shelf.new) }
 {
-    let violation = match judge(store) {
-        Verdict::Satisfied => return Ok(fixed(Status::Yes, "satisfied\n")),
-        Verdict::Violated(violation) => violation,
-    };
-    let table = &store.shape().tables()[violation.table as usize];
-    let constraint = &table.constraints.as_slice()[violation.constraint as usize];
-    let line = violation_line(alloc, table, constraint, violation)?;
-    Ok(made(Status::No, line))
+    match shape_of_file(alloc, shelf, tables)? {
+        Shaped::Shape(shape) => answer_to_file(alloc, shelf, witness, shape),
+        Shaped::Refused(answer) => Ok(answer),
+    }
 }
 
-/// The answer to the bytes of a witness.
-fn witness_answer(alloc: Global, shape: Shape, file: &[u8]) -> Result<Answer, AllocError>
-    ensures due { IfOk result (λ a. IsWitnessAnswer shape file.now (answer_of a)) }
-    ensures kind { IfOk result (λ a. EndsCheck a.status) }
+/// The shape of a file of tables.
+fn shape_of_file<S: Shelf>(alloc: Global, shelf: &mut S, name: &str) -> Result<Shaped, Stop>
+    ensures shape { IsTrue (S.state shelf.old).told → IfOk result (IsShapedFile (bytes_of (S.state shelf.old) name.now)) }
+    ensures kind { IfOk result RefusalEndsCheck }
+    ensures failed { OnReadFault result (ReadFailed (S.state shelf.old) (S.state shelf.new) name.now) }
+    ensures quiet { UnlessReadFault result (SameFaults (S.state shelf.old) (S.state shelf.new)) }
+    ensures reads_only { ReadsOnly (S.state shelf.old) (S.state shelf.new) }
 {
-    match read_witness(alloc, shape, file) {
-        Ok(store) => Ok(judged(alloc, &store)?),
-        Err(WitnessStop::Fault(fault)) => {
-            Ok(made(Status::Witness, witness_fault_line(alloc, fault)?))
+    match read_whole(alloc, shelf, name, MAX_TABLES_FILE) {
+        Ok(text) => Ok(shape_of_text(alloc, text.as_slice())?),
+        Err(WholeStop::TooLong) => {
+            let line = too_long_line(alloc, MAX_TABLES_FILE)?;
+            Ok(Shaped::Refused(made(Status::TooLong, line)))
         }
-        Err(WitnessStop::TooLarge { log_bits }) => {
-            Ok(made(Status::TooLarge, too_large_line(alloc, log_bits)?))
-        }
-        Err(WitnessStop::NoMemory) => Err(AllocError),
+        Err(WholeStop::ReadFault) => Err(Stop::ReadFault),
+        Err(WholeStop::NoMemory) => Err(Stop::NoMemory),
     }
 }
 
@@ -109,25 +111,6 @@ fn shape_of_text(alloc: Global, text: &[u8]) -> Result<Shaped, AllocError>
     }
 }
 
-/// The shape of a file of tables.
-fn shape_of_file<S: Shelf>(alloc: Global, shelf: &mut S, name: &str) -> Result<Shaped, Stop>
-    ensures shape { IsTrue (S.state shelf.old).told → IfOk result (IsShapedFile (bytes_of (S.state shelf.old) name.now)) }
-    ensures kind { IfOk result RefusalEndsCheck }
-    ensures failed { OnReadFault result (ReadFailed (S.state shelf.old) (S.state shelf.new) name.now) }
-    ensures quiet { UnlessReadFault result (SameFaults (S.state shelf.old) (S.state shelf.new)) }
-    ensures reads_only { ReadsOnly (S.state shelf.old) (S.state shelf.new) }
-{
-    match read_whole(alloc, shelf, name, MAX_TABLES_FILE) {
-        Ok(text) => Ok(shape_of_text(alloc, text.as_slice())?),
-        Err(WholeStop::TooLong) => {
-            let line = too_long_line(alloc, MAX_TABLES_FILE)?;
-            Ok(Shaped::Refused(made(Status::TooLong, line)))
-        }
-        Err(WholeStop::ReadFault) => Err(Stop::ReadFault),
-        Err(WholeStop::NoMemory) => Err(Stop::NoMemory),
-    }
-}
-
 /// The answer to a file of a witness.
 fn answer_to_file<S: Shelf>(
     alloc: Global,
@@ -152,22 +135,34 @@ fn answer_to_file<S: Shelf>(
     }
 }
 
-/// Whether the witness in the second file satisfies the tables in the first.
-pub(crate) fn check<S: Shelf>(
-    alloc: Global,
-    shelf: &mut S,
-    tables: &str,
-    witness: &str,
-) -> Result<Answer, Stop>
-    ensures due { IsTrue (S.state shelf.old).told → IfOk result (λ a. IsCheckAnswer (bytes_of (S.state shelf.old) tables.now) (bytes_of (S.state shelf.old) witness.now) (answer_of a)) }
-    ensures once { IsTrue (S.state shelf.old).told → OnOk result (IsFileReadOnce (bytes_of (S.state shelf.old) tables.now)) }
+/// The answer to the bytes of a witness.
+fn witness_answer(alloc: Global, shape: Shape, file: &[u8]) -> Result<Answer, AllocError>
+    ensures due { IfOk result (λ a. IsWitnessAnswer shape file.now (answer_of a)) }
     ensures kind { IfOk result (λ a. EndsCheck a.status) }
-    ensures failed { OnReadFault result (EitherReadFailed (S.state shelf.old) (S.state shelf.new) tables.now witness.now) }
-    ensures quiet { UnlessReadFault result (SameFaults (S.state shelf.old) (S.state shelf.new)) }
-    ensures reads_only { ReadsOnly (S.state shelf.old) (S.state shelf.new) }
 {
-    match shape_of_file(alloc, shelf, tables)? {
-        Shaped::Shape(shape) => Ok(answer_to_file(alloc, shelf, witness, shape)?),
-        Shaped::Refused(answer) => Ok(answer),
+    match read_witness(alloc, shape, file) {
+        Ok(store) => Ok(judged(alloc, &store)?),
+        Err(WitnessStop::Fault(fault)) => {
+            Ok(made(Status::Witness, witness_fault_line(alloc, fault)?))
+        }
+        Err(WitnessStop::TooLarge { log_bits }) => {
+            Ok(made(Status::TooLarge, too_large_line(alloc, log_bits)?))
+        }
+        Err(WitnessStop::NoMemory) => Err(AllocError),
     }
+}
+
+/// Whether the values satisfy the tables.
+fn judged(alloc: Global, store: &Store) -> Result<Answer, AllocError>
+    ensures judged { IfOk result (λ a. IsJudgement store.now.tables store.now.rows store.now.filling (answer_of a)) }
+    ensures kind { IfOk result (λ a. EndsCheck a.status) }
+{
+    let violation = match judge(store) {
+        Verdict::Satisfied => return Ok(fixed(Status::Yes, "satisfied\n")),
+        Verdict::Violated(violation) => violation,
+    };
+    let table = &store.shape().tables()[violation.table as usize];
+    let constraint = &table.constraints.as_slice()[violation.constraint as usize];
+    let line = violation_line(alloc, table, constraint, violation)?;
+    Ok(made(Status::No, line))
 }

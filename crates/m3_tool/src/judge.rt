@@ -1,15 +1,18 @@
 //! Whether values satisfy tables.
 
-ghost use Rattle.std.specs.Prelude.{◌≡◌, ◌≤◌, ◌<◌, ◌^◌, IfNone, IfSome, length, map, slice_index};
+ghost use Rattle.table_text.specs.Limits.{max_level, max_log_values};
+ghost use Rattle.m3_tool.specs.Limits.{max_rows};
+ghost use Rattle.std.specs.Prelude.{◌≡◌, ◌≤◌, ◌<◌, ◌^◌, IfNone, IfSome, IsSome, length, map};
 ghost use Rattle.m3_tool.specs.Value.{value};
 ghost use Rattle.tower_laws.specs.Lists.{product_all, sum_all};
 ghost use Rattle.m3_tool.specs.Shape.{TableFits};
-ghost use Rattle.m3_tool.specs.Filling.{max_rows, values_of};
+ghost use Rattle.m3_tool.specs.Filling.{values_at};
 ghost use Rattle.m3_tool.specs.Judging.{IsZeroAtIndices, IsFirstInRow, FindsFirst, FindsFirstInTable, IsVerdict};
 
-use crate::shape::{ConstraintShape, ShapeExpr, TableShape};
+use crate::shape::{ColumnShape, ConstraintShape, ShapeExpr, TableShape};
+use crate::size::ceil_log;
 use crate::store::Store;
-use tower_field::{B128, Tower};
+use tower_field::{B128, Tower, by_level, lift};
 
 /// A constraint whose value at a row and an index isn't 0.
 #[derive(Clone, Copy, Debug, PartialEq, Eq)]
@@ -36,59 +39,114 @@ pub struct Found {
     pub value: B128,
 }
 
-/// The value of an expression over the columns of a table at a position.
+/// The value of an expression over the columns of a table at a position, in the field of F. None
+/// where a number of it, or a value of its columns, is no element of that field.
 #[cycle(values)]
-fn value_of(store: &Store, table: u32, expr: &ShapeExpr, position: u32) -> B128
-    ensures { result ≡ value (λ column. slice_index (values_of store.now.filling table column) position) expr.now }
+fn value_in<F: Tower>(store: &Store, table: u32, expr: &ShapeExpr, position: u32) -> Option<F>
+    ensures value { IfSome result (λ element. F.number element ≡ value (values_at store.now.filling table position) expr.now) }
+    ensures whole { max_level ≤ F.LEVEL → IsSome result }
 {
     match expr {
-        ShapeExpr::Number(n) => *n,
-        ShapeExpr::Column(column) => store.value(table, *column, position),
-        ShapeExpr::Sum(parts) => sum_of(store, table, parts.as_slice(), position),
-        ShapeExpr::Product(parts) => product_of(store, table, parts.as_slice(), position),
+        ShapeExpr::Number(n) => F::from_number(n.number()),
+        ShapeExpr::Column(column) => F::from_number(store.value(table, *column, position).number()),
+        ShapeExpr::Sum(parts) => sum_in(store, table, parts.as_slice(), position),
+        ShapeExpr::Product(parts) => product_in(store, table, parts.as_slice(), position),
     }
 }
 
 #[cycle(values)]
-fn sum_of(store: &Store, table: u32, parts: &[ShapeExpr], position: u32) -> B128
-    ensures { result ≡ sum_all (map (value (λ column. slice_index (values_of store.now.filling table column) position)) parts.now) }
+fn sum_in<F: Tower>(store: &Store, table: u32, parts: &[ShapeExpr], position: u32) -> Option<F>
+    ensures value { IfSome result (λ element. F.number element ≡ sum_all (map (value (values_at store.now.filling table position)) parts.now)) }
+    ensures whole { max_level ≤ F.LEVEL → IsSome result }
 {
-    let mut sum = B128::ZERO;
+    let mut sum = F::ZERO;
     for part in parts {
-        sum = sum.add(value_of(store, table, part, position));
+        sum = sum.add(value_in(store, table, part, position)?);
     }
-    sum
+    Some(sum)
 }
 
 #[cycle(values)]
-fn product_of(store: &Store, table: u32, parts: &[ShapeExpr], position: u32) -> B128
-    ensures { result ≡ product_all (map (value (λ column. slice_index (values_of store.now.filling table column) position)) parts.now) }
+fn product_in<F: Tower>(store: &Store, table: u32, parts: &[ShapeExpr], position: u32) -> Option<F>
+    ensures value { IfSome result (λ element. F.number element ≡ product_all (map (value (values_at store.now.filling table position)) parts.now)) }
+    ensures whole { max_level ≤ F.LEVEL → IsSome result }
 {
-    let mut product = B128::ONE;
-    for part in parts {
-        product = product.mul(value_of(store, table, part, position));
+    let Some((first, others)) = parts.split_first() else {
+        return Some(F::ONE);
+    };
+    let mut product: F = value_in(store, table, first, position)?;
+    for part in others {
+        product = product.mul(value_in(store, table, part, position)?);
     }
-    product
+    Some(product)
+}
+
+/// The value of an expression at a position. It is computed in the field of F where that has all
+/// parts, which costs less the smaller the field is.
+fn value_by<F: Tower>(store: &Store, table: u32, expr: &ShapeExpr, position: u32) -> B128
+    ensures { result ≡ value (values_at store.now.filling table position) expr.now }
+{
+    if let Some(element) = value_in::<F>(store, table, expr, position) {
+        return lift(element);
+    }
+    match value_in::<B128>(store, table, expr, position) {
+        Some(element) => element,
+        None => unreachable!(),
+    }
+}
+
+/// The level of the least field that has the number.
+fn level_of_number(number: u128) -> u32 {
+    ceil_log(u64::from(u128::BITS - number.leading_zeros()))
+}
+
+/// The level of the least field that has the numbers of an expression and the values of its
+/// columns. No clause speaks of it, since a value is the same whichever field it is computed in.
+#[cycle(levels)]
+fn level_of(expr: &ShapeExpr, columns: &[ColumnShape]) -> u32 {
+    match expr {
+        ShapeExpr::Number(n) => level_of_number(n.number()),
+        ShapeExpr::Column(column) => match columns.get(*column as usize) {
+            Some(column) => column.level,
+            None => B128::LEVEL,
+        },
+        ShapeExpr::Sum(parts) => greatest_level(parts.as_slice(), columns),
+        ShapeExpr::Product(parts) => greatest_level(parts.as_slice(), columns),
+    }
+}
+
+#[cycle(levels)]
+fn greatest_level(parts: &[ShapeExpr], columns: &[ColumnShape]) -> u32 {
+    let mut level = 0;
+    for part in parts {
+        level = level_of(part, columns).max(level);
+    }
+    level
 }
 
 fn values_per_row(log_values: u32) -> u32
-    requires { log_values ≤ 7 }
+    requires { log_values ≤ max_log_values }
     ensures value { result ≡ 2 ^ log_values }
     ensures small { result ≤ 128 }
 {
     1 << log_values
 }
 
-/// The first value of a constraint in a row that isn't 0.
-fn first_in_row(store: &Store, table: u32, constraint: &ConstraintShape, row: u32) -> Option<Found>
+/// The first value of a constraint in a row that isn't 0, computed in the field of F.
+fn first_in_row<F: Tower>(
+    store: &Store,
+    table: u32,
+    constraint: &ConstraintShape,
+    row: u32,
+) -> Option<Found>
     requires row { row < max_rows }
-    requires log_values { constraint.now.log_values ≤ 7 }
+    requires log_values { constraint.now.log_values ≤ max_log_values }
     ensures none { IfNone result (IsZeroAtIndices store.now.filling table constraint.now row (2 ^ constraint.now.log_values)) }
     ensures first { IfSome result (IsFirstInRow store.now.filling table constraint.now row) }
 {
     let count = values_per_row(constraint.log_values);
     for index in 0..count {
-        let value = value_of(store, table, &constraint.expr, row * count + index);
+        let value = value_by::<F>(store, table, &constraint.expr, row * count + index);
         if value != B128::ZERO {
             return Some(Found { row, index, value });
         }
@@ -96,23 +154,38 @@ fn first_in_row(store: &Store, table: u32, constraint: &ConstraintShape, row: u3
     None
 }
 
-/// The first value of a constraint in the first rows that isn't 0.
-fn first_in_rows(
+/// The first value of a constraint in the first rows that isn't 0, computed in the field of F.
+fn first_in_rows<F: Tower>(
     store: &Store,
     table: u32,
     constraint: &ConstraintShape,
     rows: u32,
 ) -> Option<Found>
     requires rows { rows ≤ max_rows }
-    requires log_values { constraint.now.log_values ≤ 7 }
+    requires log_values { constraint.now.log_values ≤ max_log_values }
     ensures { FindsFirst store.now.filling table constraint.now rows result }
 {
     for row in 0..rows {
-        if let Some(found) = first_in_row(store, table, constraint, row) {
+        if let Some(found) = first_in_row::<F>(store, table, constraint, row) {
             return Some(found);
         }
     }
     None
+}
+
+/// The first value of a constraint in the first rows that isn't 0, computed in the field of a level.
+fn first_at_level(
+    store: &Store,
+    table: u32,
+    constraint: &ConstraintShape,
+    rows: u32,
+    level: u32,
+) -> Option<Found>
+    requires rows { rows ≤ max_rows }
+    requires log_values { constraint.now.log_values ≤ max_log_values }
+    ensures { FindsFirst store.now.filling table constraint.now rows result }
+{
+    by_level!(level, first_in_rows(store, table, constraint, rows))
 }
 
 /// The first violation of a table.
@@ -122,7 +195,8 @@ fn first_in_table(store: &Store, number: u32, table: &TableShape, rows: u32) -> 
     ensures { FindsFirstInTable store.now.filling number table.now rows (length table.now.constraints) result }
 {
     for (constraint_number, constraint) in table.constraints.as_slice().iter().enumerate() {
-        if let Some(found) = first_in_rows(store, number, constraint, rows) {
+        let level = level_of(&constraint.expr, table.columns.as_slice());
+        if let Some(found) = first_at_level(store, number, constraint, rows, level) {
             return Some(Violation {
                 table: number,
                 constraint: constraint_number as u32,

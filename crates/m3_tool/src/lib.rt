@@ -4,6 +4,7 @@
 mod answer;
 mod check;
 pub mod judge;
+pub mod limits;
 mod lines;
 pub mod resolve;
 mod running;

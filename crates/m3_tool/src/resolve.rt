@@ -1,18 +1,18 @@
 //! Names resolved.
 
+ghost use Rattle.table_text.specs.Limits.{max_level, max_log_values};
+ghost use Rattle.m3_tool.specs.Limits.{max_tables, max_columns};
 ghost use Rattle.std.specs.Prelude.{◌≡◌, ◌≤◌, ◌+◌, ◌<◌, ◌^◌, min, List, length, map, IfOk, OnOk, Ok, Err};
 ghost use Rattle.std.specs.List.{list_any};
 ghost use Rattle.std.specs.Str.{bytes_eq};
 ghost use Rattle.table_text.specs.Valid.{ItemLevelsFit};
-ghost use Rattle.m3_tool.specs.Shape.{TableFits, all_some, begun_table, max_columns, max_tables, number_of_name, resolved, shape_of, with_column, with_constraint, with_items};
+ghost use Rattle.m3_tool.specs.Shape.{TableFits, all_some, begun_table, number_of_name, resolved, shape_of, with_column, with_constraint, with_items};
 ghost use Rattle.m3_tool.specs.ShapeGives.{Gives};
 ghost use Rattle.m3_tool.specs.ShapeMeaning.{IsShapedWhereMeant};
 ghost use Rattle.m3_tool.specs.Value.{degree};
 
-use crate::shape::{
-    ColumnShape, ConstraintShape, MAX_COLUMNS, MAX_CONSTRAINTS, MAX_DEGREE, MAX_TABLES, Shape,
-    ShapeExpr, ShapeExprs, TableShape,
-};
+use crate::limits::{MAX_COLUMNS, MAX_CONSTRAINTS, MAX_DEGREE, MAX_TABLES};
+use crate::shape::{ColumnShape, ConstraintShape, Shape, ShapeExpr, ShapeExprs, TableShape};
 use sqlite_items::Items;
 use std::alloc::{AllocError, Global};
 use table_text::{Decl, Expr, Item, Name, Tables};
@@ -184,8 +184,8 @@ fn with_column(
     mut table: TableShape,
 ) -> Result<TableShape, ShapeStop>
     requires fits { TableFits table }
-    requires level { level ≤ 7 }
-    requires log_values { log_values ≤ 7 }
+    requires level { level ≤ max_level }
+    requires log_values { log_values ≤ max_log_values }
     ensures exact { Gives result (with_column item name.now level log_values table) }
     ensures fits { IfOk result TableFits }
 {

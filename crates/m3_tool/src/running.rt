@@ -4,11 +4,11 @@ ghost use Rattle.std.specs.Prelude.{◌≡◌, ◌≢◌, false, map, string_byt
 ghost use Rattle.byte_ends.specs.Counts.{Rose};
 ghost use Rattle.byte_ends.specs.Shelf.{ReadsOnly, SameReadFaults};
 ghost use Rattle.byte_ends.specs.Sink.{Puts};
-ghost use Rattle.m3_tool.specs.Answered.{IsAnswered, answer_of};
+ghost use Rattle.m3_tool.specs.Answer.{IsAnswered, answer_of};
 ghost use Rattle.m3_tool.specs.Command.{command_of};
 ghost use Rattle.m3_tool.specs.Lines.{help_text, no_memory_line, read_fault_line};
 ghost use Rattle.m3_tool.specs.Run.{ReadsFailed, answer, is_outside};
-ghost use Rattle.m3_tool.specs.Headline.{OnlyDue, PutsDue, PutsPart, RefusesWords, SaysSatisfied, SaysViolated};
+ghost use Rattle.m3_tool.specs.Headline.{AnswersWords, IsUndisturbed, OnlyDue, PutsDue, PutsPart, SaysSatisfied, SaysViolated, SaysWhether};
 
 use crate::answer::{Answer, fixed};
 use crate::check::{Stop, check};
@@ -77,13 +77,20 @@ pub fn run<S: Shelf, W: Sink>(alloc: Global, words: &[String], shelf: &mut S, ou
     ensures due { IsTrue (S.state shelf.old).told → is_outside result ≡ false → PutsDue (command_of (map string_bytes words.now)) (S.state shelf.old) (W.state out.old) (W.state out.new) result }
     ensures only { IsTrue (S.state shelf.old).told → is_outside result ≡ false → OnlyDue (command_of (map string_bytes words.now)) (S.state shelf.old) result }
 
-    // Words that fit no command need no memory to be refused.
-    ensures words { command_of (map string_bytes words.now) ≡ None → RefusesWords (W.state out.old) (W.state out.new) result }
+    // A check whose files are accepted says whether the witness satisfies the tables. Where no
+    // count of faults rises, nothing but want of memory stands against it.
+    ensures whether { SaysWhether (command_of (map string_bytes words.now)) (S.state shelf.old) result }
+    ensures undisturbed { IsUndisturbed (S.state shelf.old) (S.state shelf.new) (W.state out.old) (W.state out.new) result }
+
+    // Words that name no file, and words that fit no command, need neither memory nor a shelf that
+    // tells its files.
+    ensures words { AnswersWords (command_of (map string_bytes words.now)) (W.state out.old) (W.state out.new) result }
     ensures fits { result ≡ Status.Words → command_of (map string_bytes words.now) ≡ None }
 
-    // A fault of the outside comes only where its count rose.
+    // A fault of the outside comes only where its count rose, and that of a file only where all
+    // that is read before it is accepted.
     ensures read_fault { result ≡ Status.ReadFault → ReadsFailed (command_of (map string_bytes words.now)) (S.state shelf.old) (S.state shelf.new) × Puts (W.state out.old) (W.state out.new) read_fault_line }
-    ensures write_fault { result ≡ Status.WriteFault → Rose (W.state out.old).faults (W.state out.new).faults × PutsPart (command_of (map string_bytes words.now)) (S.state shelf.old) (W.state out.old) (W.state out.new) }
+    ensures write_fault { result ≡ Status.WriteFault → Rose (W.state out.old).faults (W.state out.new).faults × PutsPart (command_of (map string_bytes words.now)) (S.state shelf.old) (S.state shelf.new) (W.state out.old) (W.state out.new) }
     ensures no_memory { result ≡ Status.NoMemory → Puts (W.state out.old) (W.state out.new) no_memory_line }
 
     // A count that rose shows in the status.

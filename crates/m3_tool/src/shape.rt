@@ -7,18 +7,6 @@ use std::marker::Model;
 use table_text::Name;
 use tower_field::B128;
 
-/// The greatest number of tables.
-pub const MAX_TABLES: usize = 64;
-
-/// The greatest number of columns of a table.
-pub const MAX_COLUMNS: usize = 256;
-
-/// The greatest number of constraints of a table.
-pub const MAX_CONSTRAINTS: usize = 256;
-
-/// The greatest degree of a constraint.
-pub const MAX_DEGREE: u32 = 8;
-
 /// A committed column of `2 ^ log_values` values per row, each of `2 ^ level` bits.
 #[derive(Debug, Drop)]
 pub struct ColumnShape {
@@ -76,7 +64,8 @@ impl Model for Shape {
 
     ghost coded = { Prim.hlevel (codes, expr.the_row.coded) };
 
-    ghost use Rattle.m3_tool.specs.Shape.{TablesFit, max_tables};
+    ghost use Rattle.m3_tool.specs.Limits.{max_tables};
+    ghost use Rattle.m3_tool.specs.Shape.{TablesFit};
 
     ghost view = { λ s. s.tables };
 
@@ -84,7 +73,8 @@ impl Model for Shape {
 }
 
 impl Shape {
-    ghost use Rattle.m3_tool.specs.Shape.{TablesFit, max_tables};
+    ghost use Rattle.m3_tool.specs.Limits.{max_tables};
+    ghost use Rattle.m3_tool.specs.Shape.{TablesFit};
 
     /// The shape of these tables.
     pub fn of(tables: TableShapes) -> Shape

@@ -1,9 +1,9 @@
 //! How many bits the columns of all tables take.
 
+ghost use Rattle.m3_tool.specs.Limits.{max_columns, max_rows};
 ghost use Rattle.std.specs.Prelude.{◌≡◌, ℕ, ◌*◌, ◌^◌, ◌<◌, ◌≤◌, length, slice_index};
 ghost use Rattle.m3_tool.specs.Size.{ceil_log, columns_bits, size_log};
-ghost use Rattle.m3_tool.specs.Filling.{max_rows};
-ghost use Rattle.m3_tool.specs.Shape.{ColumnsFit, max_columns};
+ghost use Rattle.m3_tool.specs.Shape.{ColumnsFit};
 
 use crate::shape::{ColumnShape, Shape};
 

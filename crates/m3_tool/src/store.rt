@@ -1,5 +1,7 @@
 //! The values of a witness.
 
+ghost use Rattle.table_text.specs.Limits.{max_level};
+ghost use Rattle.m3_tool.specs.Limits.{max_size_log};
 ghost use Rattle.std.specs.Prelude.{◌≡◌, ℕ, ◌/◌, ◌%◌, ◌^◌, ◌<◌, ◌≤◌, length, slice_index};
 ghost use Rattle.m3_tool.specs.Filling.{values_of};
 ghost use Rattle.m3_tool.specs.Digits.{number_of_bytes};
@@ -21,7 +23,7 @@ pub struct Store {
 }
 
 impl Model for Store {
-    ghost use Rattle.m3_tool.specs.Stored.{Stored};
+    ghost use Rattle.m3_tool.specs.Store.{Stored};
     ghost use Rattle.std.specs.Coded.{codes};
     ghost use Rattle.m3_tool.specs.contracts.shape.ShapeExpr as expr;
 
@@ -31,7 +33,7 @@ impl Model for Store {
 
     ghost use Rattle.m3_tool.specs.Filling.{Filling};
     ghost use Rattle.m3_tool.specs.Witness.{filling_of};
-    ghost use Rattle.m3_tool.specs.Stored.{IsStored};
+    ghost use Rattle.m3_tool.specs.Store.{IsStored};
 
     ghost view = { λ s. record { tables = s.shape; rows = s.rows; filling = filling_of s.shape (record { rows = s.rows; bytes = s.bytes }) } };
 
@@ -40,8 +42,8 @@ impl Model for Store {
 
 impl Store {
     ghost use Rattle.m3_tool.specs.Filling.{IsFilling};
-    ghost use Rattle.m3_tool.specs.Size.{size_log, max_size_log};
-    ghost use Rattle.m3_tool.specs.Stored.{IsStored};
+    ghost use Rattle.m3_tool.specs.Size.{size_log};
+    ghost use Rattle.m3_tool.specs.Store.{IsStored};
     ghost use Rattle.m3_tool.specs.Witness.{filling_of};
 
     /// The store of columns with these bytes.
@@ -96,7 +98,7 @@ pub fn digits_stand_by_place()
 
 /// The value of `2 ^ level` bits at a position.
 fn digit_of_bytes(bytes: &[u8], level: u32, position: u32) -> u128
-    requires { level ≤ 7 }
+    requires { level ≤ max_level }
     ensures { result ≡ number_of_bytes bytes.now / (2 ^ (2 ^ level)) ^ position % 2 ^ (2 ^ level) }
 {
     if level < 3 {
@@ -118,7 +120,7 @@ fn part_of_byte(bytes: &[u8], level: u32, position: u32) -> u8
 
 fn whole_bytes(bytes: &[u8], level: u32, position: u32) -> u128
     requires low { 3 ≤ level }
-    requires high { level ≤ 7 }
+    requires high { level ≤ max_level }
     ensures { result ≡ number_of_bytes bytes.now / (2 ^ (2 ^ level)) ^ position % 2 ^ (2 ^ level) }
 {
     let size = 1usize << (level - 3);

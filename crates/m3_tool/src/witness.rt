@@ -1,5 +1,7 @@
 //! The reader of a witness file.
 
+ghost use Rattle.table_text.specs.Limits.{max_level, max_log_values};
+ghost use Rattle.m3_tool.specs.Limits.{max_tables, max_columns, max_rows};
 ghost use Rattle.std.specs.Prelude.{◌≡◌, ◌≢◌, ◌+◌, ◌/◌, ◌^◌, ◌∷◌, ◌≤◌, ℕ, List, codes, length, map, nat_lt, option_map, IfOk, Ok, Err};
 ghost use Rattle.std.specs.List.{list_any};
 ghost use Rattle.std.specs.Str.{bytes_eq};
@@ -11,12 +13,13 @@ ghost use Rattle.m3_tool.specs.declared.witness.WitnessKind.TheVariants.{NotJson
 ghost use Rattle.m3_tool.specs.declared.witness.WitnessStop.{WitnessStop};
 ghost use Rattle.m3_tool.specs.declared.witness.WitnessStop.TheVariants.{Fault, NoMemory};
 ghost use Rattle.m3_tool.specs.Digits.{number_of_bytes};
-ghost use Rattle.m3_tool.specs.Filling.{IsFilling, max_rows};
-ghost use Rattle.m3_tool.specs.Given.{IsReadWhereGiven};
+ghost use Rattle.m3_tool.specs.Filling.{IsFilling};
+ghost use Rattle.m3_tool.specs.WitnessMeaning.{IsReadWhereGiven};
 ghost use Rattle.m3_tool.specs.WitnessGives.{Gives};
-ghost use Rattle.m3_tool.specs.Shape.{ColumnsFit, TableFits, TablesFit, table_names, max_columns, max_tables};
-ghost use Rattle.m3_tool.specs.Witness.{IsOf, bits_of, column_bytes, columns_bytes, has_other, hex_bytes, json_of, object_of, objects_of, or_refuse, rows_of, rows_of_tables, table_bytes, tables_bytes, witness_of};
+ghost use Rattle.m3_tool.specs.Shape.{ColumnsFit, TableFits, TablesFit, table_names};
+ghost use Rattle.m3_tool.specs.Witness.{IsOf, written_bits, column_bytes, columns_bytes, has_other, hex_bytes, json_of, object_of, objects_of, or_refuse, rows_of, rows_of_tables, table_bytes, tables_bytes, witness_of};
 
+use crate::limits::{MAX_ROWS, MAX_SIZE_LOG};
 use crate::shape::{ColumnShape, Shape, TableShape};
 use crate::size::size_log;
 use crate::store::Store;
@@ -85,12 +88,6 @@ impl From<AllocError> for WitnessStop {
         WitnessStop::NoMemory
     }
 }
-
-/// The most rows that a table may have.
-const MAX_ROWS: u32 = 1_048_576;
-
-/// The greatest size that is taken.
-const MAX_SIZE_LOG: u32 = 24;
 
 /// The values that a witness file gives to the columns of tables, or its first fault.
 ///
@@ -284,8 +281,8 @@ fn column_bytes(
     object: &Map<String, Value>,
 ) -> Result<Items<u8>, WitnessStop>
     requires rows_few { rows ≤ max_rows }
-    requires level { column.now.level ≤ 7 }
-    requires values { column.now.log_values ≤ 7 }
+    requires level { column.now.level ≤ max_level }
+    requires values { column.now.log_values ≤ max_log_values }
     ensures { Gives (λ bytes. bytes) result (column_bytes t c rows column.now (members_view object.now.entries)) }
 {
     let place = WitnessPlace::Column(t, c);
@@ -296,7 +293,7 @@ fn column_bytes(
         return Err(refused(place, WitnessKind::NotAText));
     };
     let bytes = hex_bytes(alloc, place, text)?;
-    let bits = bits_of(rows, column);
+    let bits = written_bits(rows, column);
     if bytes.len() as u64 != (bits + 7) / 8 {
         return Err(refused(place, WitnessKind::WrongLength));
     }
@@ -306,11 +303,11 @@ fn column_bytes(
     Ok(bytes)
 }
 
-fn bits_of(rows: u32, column: &ColumnShape) -> u64
+fn written_bits(rows: u32, column: &ColumnShape) -> u64
     requires rows_few { rows ≤ max_rows }
-    requires level { column.now.level ≤ 7 }
-    requires values { column.now.log_values ≤ 7 }
-    ensures value { result ≡ bits_of rows column.now }
+    requires level { column.now.level ≤ max_level }
+    requires values { column.now.log_values ≤ max_log_values }
+    ensures value { result ≡ written_bits rows column.now }
     ensures bound { result ≤ 2 ^ 34 }
 {
     u64::from(rows) << (column.log_values + column.level)

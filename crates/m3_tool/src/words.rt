@@ -2,7 +2,7 @@
 
 ghost use Rattle.std.specs.Prelude.{◌≡◌, [], ◌∷◌, map, string_bytes};
 ghost use Rattle.m3_tool.specs.Command.{command_of};
-ghost use Rattle.m3_tool.specs.Answering.{seen};
+ghost use Rattle.m3_tool.specs.Words.{seen};
 
 /// A command, with the files that it names.
 #[derive(Clone, Copy)]

@@ -304,3 +304,111 @@ fn a_sink_that_fails(rt: HostRuntime) -> Result<(), Fail> {
     assert_eq!(rt; out.bytes(), b"wo".as_slice());
     Ok(())
 }
+
+/// Adds `front`, a number and `back` for each number below `count`, with commas between.
+fn add_each(
+    alloc: Global,
+    text: &mut Vec<u8>,
+    count: u32,
+    comma: &str,
+    front: &str,
+    back: &str,
+) -> Result<(), AllocError> {
+    for number in 0..count {
+        let comma = if number == 0 { "" } else { comma };
+        let item = format!(in alloc; "{comma}{front}{number}{back}")?;
+        text.extend_from_slice(item.as_bytes())?;
+    }
+    Ok(())
+}
+
+#[test]
+fn as_many_tables_as_there_may_be(rt: HostRuntime) -> Result<(), Fail> {
+    let alloc = rt.alloc();
+    for (count, status, text) in [
+        (64, Status::Yes, "satisfied\n"),
+        (65, Status::Tables, "tables: TooMany at item 192\n"),
+    ] {
+        let mut tables = Vec::new(alloc);
+        let back = " { column a : b1; zero z : a*a + a; }";
+        add_each(alloc, &mut tables, count, "", "table t", back)?;
+        let mut witness = Vec::from_slice(alloc, b"{".as_slice())?;
+        let back = r#"":{"rows":1,"a":"01"}"#;
+        add_each(alloc, &mut witness, count, ",", "\"t", back)?;
+        witness.push(b'}')?;
+        let mut shelf = MemShelf::new(alloc, 4096, Vec::new(alloc));
+        shelf.put_file("T", tables.as_slice())?;
+        shelf.put_file("W", witness.as_slice())?;
+        runs(&rt, &["check", "T", "W"], &mut shelf, status, text)?;
+    }
+    Ok(())
+}
+
+#[test]
+fn as_many_columns_as_there_may_be(rt: HostRuntime) -> Result<(), Fail> {
+    let alloc = rt.alloc();
+    for (count, status, text) in [
+        (256, Status::Yes, "satisfied\n"),
+        (257, Status::Tables, "tables: TooMany at item 257\n"),
+    ] {
+        let mut tables = Vec::from_slice(alloc, b"table t {".as_slice())?;
+        add_each(alloc, &mut tables, count, "", " column c", " : b1;")?;
+        tables.extend_from_slice(b" zero z : c0 + c255; }".as_slice())?;
+        let mut witness = Vec::from_slice(alloc, br#"{"t":{"rows":1,"#.as_slice())?;
+        add_each(alloc, &mut witness, count, ",", "\"c", "\":\"01\"")?;
+        witness.extend_from_slice(b"}}".as_slice())?;
+        let mut shelf = MemShelf::new(alloc, 4096, Vec::new(alloc));
+        shelf.put_file("T", tables.as_slice())?;
+        shelf.put_file("W", witness.as_slice())?;
+        runs(&rt, &["check", "T", "W"], &mut shelf, status, text)?;
+    }
+    Ok(())
+}
+
+/// Sixteen columns of 2^20 bits, of which the last bit of the last is 1: 2^24 bits in all.
+#[test]
+fn as_many_bits_as_there_may_be(rt: HostRuntime) -> Result<(), Fail> {
+    let alloc = rt.alloc();
+    let mut tables = Vec::from_slice(alloc, b"table t {".as_slice())?;
+    add_each(alloc, &mut tables, 16, "", " column c", " : b1;")?;
+    tables.extend_from_slice(b" zero y : c0; zero z : c15; }".as_slice())?;
+    let mut witness = Vec::from_slice(alloc, br#"{"t":{"rows":1048576"#.as_slice())?;
+    for number in 0..16u32 {
+        let front = format!(in alloc; ",\"c{number}\":\"")?;
+        witness.extend_from_slice(front.as_bytes())?;
+        for _ in 0..131_071u32 {
+            witness.extend_from_slice(b"00".as_slice())?;
+        }
+        let last = if number == 15 { b"80\"" } else { b"00\"" };
+        witness.extend_from_slice(last.as_slice())?;
+    }
+    witness.extend_from_slice(b"}}".as_slice())?;
+    let mut shelf = MemShelf::new(alloc, 65_536, Vec::new(alloc));
+    shelf.put_file("T", tables.as_slice())?;
+    shelf.put_file("W", witness.as_slice())?;
+    let text = "violated: table t, zero z, row 1048575, index 0, value 0x1\n";
+    runs(&rt, &["check", "T", "W"], &mut shelf, Status::No, text)
+}
+
+#[test]
+fn a_missing_witness_of_tables_that_are_refused(rt: HostRuntime) -> Result<(), Fail> {
+    let alloc = rt.alloc();
+    let mut shelf = MemShelf::new(alloc, 4096, Vec::new(alloc));
+    shelf.put_file("T", b"table t { zero z : a; }".as_slice())?;
+    let text = "tables: UnknownName at item 1\n";
+    runs(&rt, &["check", "T", "W"], &mut shelf, Status::Tables, text)
+}
+
+/// After a fault of the sink nothing more is put, not even where nothing was put before.
+#[test]
+fn a_sink_that_fails_at_once(rt: HostRuntime) -> Result<(), Fail> {
+    let alloc = rt.alloc();
+    let mut shelf = MemShelf::new(alloc, 4096, Vec::new(alloc));
+    let failing = Vec::from_slice(alloc, [0].as_slice())?;
+    let mut out = MemSink::new(alloc, 4096, failing, 4096)?;
+    let words = Vec::new(alloc);
+    let status = run(alloc, words.as_slice(), &mut shelf, &mut out);
+    assert_eq!(rt; status, Status::WriteFault);
+    assert_eq!(rt; out.bytes(), b"".as_slice());
+    Ok(())
+}

@@ -1,5 +1,5 @@
 use Rattle.std.proofs.Common.{◌∙◌, ◌≤◌, length, arith}
-use Rattle.m3_tool.specs.Run.{max_tables_file}
+use Rattle.m3_tool.specs.Limits.{max_tables_file}
 use Rattle.m3_tool.proofs.AnswerSteps.{shaped_file}
 use Rattle.m3_tool.proofs.check.shape_of_file.Goals as goal
 

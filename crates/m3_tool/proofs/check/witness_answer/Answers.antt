@@ -1,4 +1,4 @@
-use Rattle.m3_tool.specs.Answered.{answer_of}
+use Rattle.m3_tool.specs.Answer.{answer_of}
 use Rattle.m3_tool.proofs.AnswerSteps.{judged_witness}
 use Rattle.m3_tool.proofs.check.witness_answer.Goals as goal
 

@@ -3,8 +3,8 @@ use Rattle.std.proofs.lemmas.Option.{slice_get_read}
 use Rattle.m3_tool.proofs.Searching.{AreZero-more, ConstraintsFit-get}
 use Rattle.m3_tool.proofs.judge.first_in_table.Goals as goal
 
-pub first_in_rows-requires-clause-log_values : goal.first_in_rows-requires-clause-log_values
-first_in_rows-requires-clause-log_values c =
+pub first_at_level-requires-clause-log_values : goal.first_at_level-requires-clause-log_values
+first_at_level-requires-clause-log_values c =
     let item = rw c.as_slice-constraint-items.ensures at c.constraint-item.is in
     let below = rw c.as_slice-constraint-items.ensures at c.loop-constraint_number-test.true in
     rw item (ConstraintsFit-get _ _ _ c.requires.fits.constraints below)

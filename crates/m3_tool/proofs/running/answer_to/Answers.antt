@@ -1,4 +1,4 @@
-use Rattle.std.proofs.Common.{Some, sym}
+use Rattle.std.proofs.Common.{Some, refl, sym}
 use Rattle.m3_tool.specs.Command.{help}
 use Rattle.m3_tool.specs.Lines.{help_text}
 use Rattle.m3_tool.proofs.Runs.{checked, printed}
@@ -11,4 +11,4 @@ returns-in-Ok g c =
 
 pub returns-in-Some-Help : goal.returns-in-Some-Help
 returns-in-Some-Help g c =
-    printed _ (Some help) _ help_text _ (sym (rw c.in-Some-Help.field-0-is at c.in-Some-Help.ensures)) (λ e. cc) (λ b is. is) c.help.ensures c.help.ensures
+    printed _ (Some help) _ help_text _ (sym (rw c.in-Some-Help.field-0-is at c.in-Some-Help.ensures)) (λ e. cc) (λ b is. is) refl c.help.ensures c.help.ensures

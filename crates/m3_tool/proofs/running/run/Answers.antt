@@ -1,7 +1,7 @@
 use Rattle.std.proofs.Common.{◌≡◌, false, ap}
 use Rattle.m3_tool.specs.Run.{is_outside}
-use Rattle.m3_tool.specs.Answered.{answer_of, line_of}
-use Rattle.m3_tool.proofs.Runs.{may_put}
+use Rattle.m3_tool.specs.Answer.{answer_of, line_of}
+use Rattle.m3_tool.proofs.Runs.{may_put, says_whether}
 use Rattle.m3_tool.proofs.Verdicts.{satisfied, violated}
 use Rattle.m3_tool.proofs.running.run.Goals as goal
 
@@ -24,7 +24,10 @@ returns-clause-write_fault g c _ =
       faults.fault,
       record {
         line = line_of c.answer_to-answer.result.text;
-        may = may_put _ _ (g.S.Shelf.state c.answer_to-answer.new.shelf) (answer_of c.answer_to-answer.result) c.answer_to-answer.ensures;
+        may = may_put _ _ _ (answer_of c.answer_to-answer.result) c.answer_to-answer.ensures;
         part = rw c.as_bytes.ensures at faults.prefix;
       },
     )
+
+pub returns-in-Ok-clause-whether : goal.returns-in-Ok-clause-whether
+returns-in-Ok-clause-whether g c = says_whether _ _ (g.S.Shelf.state c.answer_to-answer.new.shelf) (answer_of c.answer_to-answer.result) c.answer_to-answer.ensures

@@ -3,7 +3,7 @@ use Rattle.std.proofs.lemmas.Result.{err_from_is_err_and}
 use Rattle.serde_json.specs.View.{members_view}
 use Rattle.m3_tool.specs.Witness.{columns_bytes}
 use Rattle.m3_tool.proofs.Bits.{column_here}
-use Rattle.m3_tool.proofs.Following.{columns_stop, columns_go_on, ends, goes_on}
+use Rattle.m3_tool.proofs.ReadingSteps.{columns_stop, columns_go_on, ends, goes_on}
 use Rattle.m3_tool.proofs.witness.columns_bytes.Goals as goal
 
 pub column_bytes-requires : goal.column_bytes-requires

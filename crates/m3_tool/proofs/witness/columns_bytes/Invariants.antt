@@ -2,7 +2,7 @@ use Rattle.std.proofs.Common.{◌≡◌, drop}
 use Rattle.serde_json.specs.View.{members_view}
 use Rattle.m3_tool.specs.Shape.{ColumnsFit}
 use Rattle.m3_tool.specs.Witness.{columns_bytes}
-use Rattle.m3_tool.proofs.Following.{with_front}
+use Rattle.m3_tool.proofs.ReadingSteps.{with_front}
 use Rattle.m3_tool.proofs.witness.columns_bytes.Given as goal
 
 abbrev pub invariant-loop-c : goal.invariant-loop-c

@@ -1,6 +1,6 @@
 use Rattle.std.proofs.Common.{◌≡◌, drop}
 use Rattle.serde_json.specs.View.{members_view}
-use Rattle.m3_tool.proofs.Following.{with_front, rows_from}
+use Rattle.m3_tool.proofs.ReadingSteps.{with_front, rows_from}
 use Rattle.m3_tool.proofs.witness.rows_of_tables.Given as goal
 
 abbrev pub invariant-loop-t : goal.invariant-loop-t

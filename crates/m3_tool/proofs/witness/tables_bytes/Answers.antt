@@ -2,7 +2,7 @@ use Rattle.std.proofs.Common.{drop, sym, ◌∙◌}
 use Rattle.std.proofs.lemmas.Result.{err_from_is_err_and}
 use Rattle.serde_json.specs.View.{members_view}
 use Rattle.m3_tool.specs.Witness.{tables_bytes}
-use Rattle.m3_tool.proofs.Following.{bytes_from, tables_stop_at_object, tables_stop_at_bytes, tables_end, same_bytes, stops_along, ends, is_done}
+use Rattle.m3_tool.proofs.ReadingSteps.{bytes_from, tables_stop_at_object, tables_stop_at_bytes, tables_end, same_bytes, stops_along, ends, is_done}
 use Rattle.m3_tool.proofs.witness.tables_bytes.Goals as goal
 
 pub returns-in_err-object : goal.returns-in_err-object

@@ -1,7 +1,7 @@
 use Rattle.std.proofs.Common.{◌≡◌, drop}
 use Rattle.serde_json.specs.View.{members_view}
 use Rattle.m3_tool.specs.Shape.{TablesFit}
-use Rattle.m3_tool.proofs.Following.{with_front, bytes_from}
+use Rattle.m3_tool.proofs.ReadingSteps.{with_front, bytes_from}
 use Rattle.m3_tool.proofs.witness.tables_bytes.Given as goal
 
 abbrev pub invariant-loop-t : goal.invariant-loop-t

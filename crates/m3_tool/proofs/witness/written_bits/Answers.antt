@@ -1,6 +1,6 @@
 use Rattle.std.proofs.Common.{arith}
 use Rattle.m3_tool.proofs.Bits.{rows_shift_is}
-use Rattle.m3_tool.proofs.witness.bits_of.Goals as goal
+use Rattle.m3_tool.proofs.witness.written_bits.Goals as goal
 
 pub returns-clause-value : goal.returns-clause-value
 returns-clause-value c = (rows_shift_is c.from.result c.args.rows c.args.column.now.log_values c.args.column.now.level c.from.ensures c.requires.rows_few c.requires.values c.requires.level).0

@@ -1,7 +1,7 @@
 use Rattle.std.proofs.Common.{◌≤◌, subst}
 use Rattle.m3_tool.specs.Filling.{IsFilling}
 use Rattle.m3_tool.specs.Size.{size_log}
-use Rattle.m3_tool.specs.Stored.{Stored}
+use Rattle.m3_tool.specs.Store.{Stored}
 use Rattle.m3_tool.proofs.KeptWitness.{is_filling}
 use Rattle.m3_tool.proofs.store.Store.rows.Goals as goal
 
