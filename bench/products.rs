@@ -52,7 +52,7 @@ static POWERS: [u8; 1025] = powers();
 static EXPONENTS: [u16; 256] = exponents();
 static CARRIED: [u8; 256] = carried();
 
-trait Level: Copy {
+pub trait Level: Copy {
     fn plus(self, other: Self) -> Self;
     fn times(self, other: Self) -> Self;
     fn carried(self) -> Self;
