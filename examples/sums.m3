@@ -1,3 +1,5 @@
+# Two tables of one file: pairs of inverses, and an adder. Each table has rows of its own.
+
 # Each row holds an element of 8 bits and its inverse.
 table inverses {
   column value : b8;
