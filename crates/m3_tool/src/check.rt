@@ -51,18 +51,18 @@ impl From<AllocError> for Stop {
 pub(crate) fn check<S: Shelf>(
     alloc: Global,
     shelf: &mut S,
-    tables: &str,
-    witness: &str,
+    tables_file: &str,
+    witness_file: &str,
 ) -> Result<Answer, Stop>
-    ensures due { IsTrue (S.state shelf.old).told → IfOk result (λ a. IsCheckAnswer (bytes_of (S.state shelf.old) tables.now) (bytes_of (S.state shelf.old) witness.now) (answer_of a)) }
-    ensures once { IsTrue (S.state shelf.old).told → OnOk result (IsFileReadOnce (bytes_of (S.state shelf.old) tables.now)) }
+    ensures due { IsTrue (S.state shelf.old).told → IfOk result (λ a. IsCheckAnswer (bytes_of (S.state shelf.old) tables_file.now) (bytes_of (S.state shelf.old) witness_file.now) (answer_of a)) }
+    ensures once { IsTrue (S.state shelf.old).told → OnOk result (IsFileReadOnce (bytes_of (S.state shelf.old) tables_file.now)) }
     ensures kind { IfOk result (λ a. EndsCheck a.status) }
-    ensures failed { OnReadFault result (CheckReadsFailed (S.state shelf.old) (S.state shelf.new) tables.now witness.now) }
+    ensures failed { OnReadFault result (CheckReadsFailed (S.state shelf.old) (S.state shelf.new) tables_file.now witness_file.now) }
     ensures quiet { UnlessReadFault result (SameFaults (S.state shelf.old) (S.state shelf.new)) }
     ensures reads_only { ReadsOnly (S.state shelf.old) (S.state shelf.new) }
 {
-    match shape_of_file(alloc, shelf, tables)? {
-        Shaped::Shape(shape) => answer_to_file(alloc, shelf, witness, shape),
+    match shape_of_file(alloc, shelf, tables_file)? {
+        Shaped::Shape(shape) => answer_to_file(alloc, shelf, witness_file, shape),
         Shaped::Refused(answer) => Ok(answer),
     }
 }

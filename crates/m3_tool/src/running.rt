@@ -53,7 +53,12 @@ fn answer_to<S: Shelf>(alloc: Global, words: &[String], shelf: &mut S) -> Answer
         None => fixed(Status::Words, "words\n"),
         Some(Command::Help) => help(),
         Some(Command::Version) => fixed(Status::Yes, VERSION),
-        Some(Command::Check { tables, witness }) => match check(alloc, shelf, tables, witness) {
+        Some(
+            Command::Check {
+                tables_file,
+                witness_file,
+            },
+        ) => match check(alloc, shelf, tables_file, witness_file) {
             Ok(answer) => answer,
             Err(Stop::ReadFault) => fixed(Status::ReadFault, "read fault\n"),
             Err(Stop::NoMemory) => fixed(Status::NoMemory, "no memory\n"),

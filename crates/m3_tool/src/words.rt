@@ -7,7 +7,10 @@ ghost use Rattle.m3_tool.specs.Words.{seen};
 /// A command, with the files that it names.
 #[derive(Clone, Copy)]
 pub(crate) enum Command<'a> {
-    Check { tables: &'a str, witness: &'a str },
+    Check {
+        tables_file: &'a str,
+        witness_file: &'a str,
+    },
     Help,
     Version,
 }
@@ -32,8 +35,8 @@ pub(crate) fn command_of(words: &[String]) -> Option<Command<'_>>
     match words {
         [word] => command_of_word(word.as_str()),
         [word, tables, witness] if word.as_str() == "check" => Some(Command::Check {
-            tables: tables.as_str(),
-            witness: witness.as_str(),
+            tables_file: tables.as_str(),
+            witness_file: witness.as_str(),
         }),
         _ => None,
     }

@@ -5,6 +5,6 @@ pub mod Grammar
 pub mod Valid
 pub mod Faults
 pub mod Machine
-pub mod Shown
+pub mod TokenMeaning
 pub mod Reading
-pub mod Steps
+pub mod StepMeaning

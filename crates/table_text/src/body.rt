@@ -2,8 +2,8 @@
 
 ghost use Rattle.std.specs.Prelude.{◌≡◌};
 ghost use Rattle.table_text.specs.Machine.{is_start, operand_step, operator_step, body_step};
-ghost use Rattle.table_text.specs.Shown.{shown};
-ghost use Rattle.table_text.specs.Steps.{Steps};
+ghost use Rattle.table_text.specs.TokenMeaning.{shown};
+ghost use Rattle.table_text.specs.StepMeaning.{IsStepTo};
 
 use crate::decl::{Item, TableItems};
 use crate::expr::{Expr, Name};
@@ -48,7 +48,7 @@ fn operand_step(
     formula: Formula,
     token: Token<'_>,
 ) -> Result<ItemStage, Refusal>
-    ensures { Steps result (operand_step name formula (shown token.entry)) }
+    ensures { IsStepTo result (operand_step name formula (shown token.entry)) }
 {
     match token {
         Token::Name(word) => {
@@ -75,7 +75,7 @@ fn operator_step(
     formula: Formula,
     token: Token<'_>,
 ) -> Result<Body, Refusal>
-    ensures { Steps result (operator_step items name formula (shown token.entry)) }
+    ensures { IsStepTo result (operator_step items name formula (shown token.entry)) }
 {
     if is_mark(token, b'*') {
         let stage = ItemStage::Operand(name, formula);
@@ -101,7 +101,7 @@ fn operator_step(
 
 /// Where an item begins.
 fn start_step(items: TableItems, token: Token<'_>) -> Result<Body, Refusal>
-    ensures { Steps result (body_step items ItemStage.Start (shown token.entry)) }
+    ensures { IsStepTo result (body_step items ItemStage.Start (shown token.entry)) }
 {
     if is_word(token, b"column") {
         let stage = ItemStage::ColumnName;
@@ -116,7 +116,7 @@ fn start_step(items: TableItems, token: Token<'_>) -> Result<Body, Refusal>
 
 /// A body after one token more.
 pub(crate) fn body_step(alloc: Global, body: Body, token: Token<'_>) -> Result<Body, Refusal>
-    ensures { Steps result (body_step body.items body.stage (shown token.entry)) }
+    ensures { IsStepTo result (body_step body.items body.stage (shown token.entry)) }
 {
     let Body { mut items, stage } = body;
     match stage {

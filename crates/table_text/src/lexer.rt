@@ -4,7 +4,7 @@ ghost use Rattle.std.specs.Prelude.{◌≡◌, ◌+◌, ◌≤◌, ◌<◌, ◌=
 ghost use Rattle.std.specs.List.{prefix_len};
 ghost use Rattle.table_text.specs.Bytes.{number_of, is_word_byte, is_digit, is_hex_digit};
 ghost use Rattle.table_text.specs.Lexing.{is_reserved, word_token, number_token, gap, word_at, decimal_at, number_at, piece_at};
-ghost use Rattle.table_text.specs.Shown.{shown, shown_piece};
+ghost use Rattle.table_text.specs.TokenMeaning.{shown, shown_piece};
 
 use crate::byte_classes::{is_blank, is_digit, is_hex_digit, is_letter, is_mark, is_word_byte};
 use crate::fault::TextKind;

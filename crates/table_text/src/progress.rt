@@ -2,7 +2,7 @@
 
 ghost use Rattle.std.specs.Prelude.{◌≡◌, ◌+◌, ◌<◌, ◌≤◌, ◌^◌, IfOk, option_map};
 ghost use Rattle.table_text.specs.Reading.{CountsWithin, Gives, begin, limit_fault, one_if, taken, after_piece, finished};
-ghost use Rattle.table_text.specs.Shown.{shown};
+ghost use Rattle.table_text.specs.TokenMeaning.{shown};
 
 use crate::decl::Decls;
 use crate::fault::{TextFault, TextKind, TextStop};

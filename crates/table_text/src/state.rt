@@ -2,8 +2,8 @@
 
 ghost use Rattle.std.specs.Prelude.{◌≡◌};
 ghost use Rattle.table_text.specs.Machine.{start, step, is_file_stage};
-ghost use Rattle.table_text.specs.Shown.{shown};
-ghost use Rattle.table_text.specs.Steps.{Steps};
+ghost use Rattle.table_text.specs.TokenMeaning.{shown};
+ghost use Rattle.table_text.specs.StepMeaning.{IsStepTo};
 
 use crate::body::{Body, ItemStage, body_step, is_start};
 use crate::decl::{Decl, Decls};
@@ -49,7 +49,7 @@ pub(crate) fn is_file_stage(stage: &Stage) -> bool
 
 /// A state after one token more.
 pub(crate) fn step(alloc: Global, state: State, token: Token<'_>) -> Result<State, Refusal>
-    ensures { Steps result (step state (shown token.entry)) }
+    ensures { IsStepTo result (step state (shown token.entry)) }
 {
     let State { mut decls, stage } = state;
     match stage {

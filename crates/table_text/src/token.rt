@@ -5,8 +5,8 @@ ghost use Rattle.std.specs.List.{list_any};
 ghost use Rattle.std.specs.Str.{bytes_eq};
 ghost use Rattle.table_text.specs.Faults.{is_mark_of, begins_declaration, own_fault, unbuilt_words};
 ghost use Rattle.table_text.specs.Machine.{is_word, level_of, name_of};
-ghost use Rattle.table_text.specs.Shown.{shown};
-ghost use Rattle.table_text.specs.Steps.{Steps};
+ghost use Rattle.table_text.specs.TokenMeaning.{shown};
+ghost use Rattle.table_text.specs.StepMeaning.{IsStepTo};
 
 use crate::expr::Name;
 use crate::fault::TextKind;
@@ -82,7 +82,7 @@ fn is_unbuilt(word: &[u8]) -> bool
 
 /// A word that isn't reserved, as a name.
 pub(crate) fn name_of(alloc: Global, token: Token<'_>) -> Result<Name, Refusal>
-    ensures { Steps result (name_of (shown token.entry)) }
+    ensures { IsStepTo result (name_of (shown token.entry)) }
 {
     match token {
         Token::Name(word) => Ok(Items::from_slice(alloc, word)?),
@@ -92,7 +92,7 @@ pub(crate) fn name_of(alloc: Global, token: Token<'_>) -> Result<Name, Refusal>
 
 /// The level of a type's word.
 pub(crate) fn level_of(token: Token<'_>) -> Result<u32, Refusal>
-    ensures { Steps result (option_and_then level_of (name_of (shown token.entry))) }
+    ensures { IsStepTo result (option_and_then level_of (name_of (shown token.entry))) }
 {
     let Token::Name(word) = token else {
         return Err(Refusal::Unexpected);

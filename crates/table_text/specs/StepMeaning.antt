@@ -10,6 +10,6 @@ Refuses Unexpected next = next ≡ None
 Refuses NoMemory next = Unit {0}
 
 -- a step goes where the machine goes, and is refused where the machine is, unless memory runs out
-abbrev pub Steps : {X : Type 0} → Result X Refusal → Option X → Type 0
-Steps (Ok x) next = next ≡ Some x
-Steps (Err refusal) next = Refuses refusal next
+abbrev pub IsStepTo : {X : Type 0} → Result X Refusal → Option X → Type 0
+IsStepTo (Ok x) next = next ≡ Some x
+IsStepTo (Err refusal) next = Refuses refusal next
