@@ -1,0 +1,3 @@
+pub mod Hats
+pub mod Logs
+pub mod Butterflies
