@@ -1,6 +1,6 @@
 -- Trees of SHA-256 digests over leaves of 32 bytes, and paths through them.
 -- Source: docs/COMMITMENTS.md, "Trees"; FIPS 180-4 for SHA-256.
-use Rattle.std.specs.Prelude.{◌≡◌, ◌≤◌, ℕ, zero, suc, ◌+◌, ◌-◌, ◌*◌, ◌/◌, ◌%◌, ◌^◌, List, [], ◌∷◌, ◌++◌, cond, ◌==◌, take, drop, get_or, length}
+use Rattle.std.specs.Prelude.{◌≡◌, ◌<◌, ◌≤◌, ℕ, zero, suc, ◌+◌, ◌-◌, ◌*◌, ◌/◌, ◌%◌, ◌^◌, List, [], ◌∷◌, ◌++◌, cond, ◌==◌, take, drop, get_or, length}
 use Rattle.sha2.specs.Sha256.{sha256}
 
 -- a tree has 2 ^ k leaves
@@ -53,3 +53,7 @@ digest_by_path index leaf path (suc h) = sha256 (over (index / 2 ^ h) (digest_by
 -- the digest to which a leaf and its whole path lead
 abbrev pub root_by_path : ℕ → List ℕ → List ℕ → List ℕ
 root_by_path index leaf path = digest_by_path index leaf path (length path / 32)
+
+-- the path of a tree leads from its leaf to its root
+abbrev pub OwnPathsCheck : Type 0
+OwnPathsCheck = (leaves : List (List ℕ)) (root path : List ℕ) (k p : ℕ) → length leaves ≡ 2 ^ k → p < length leaves → IsRoot leaves root → IsPath leaves p path → root_by_path p (get_or leaves p []) path ≡ root

@@ -10,7 +10,7 @@ mod tree;
 
 pub use clash::{Clash, find_clash};
 pub use no_memory::NoMemory;
-pub use path::{check_path, root_of};
+pub use path::{check_path, own_paths, root_of};
 pub use tree::Tree;
 
 #[cfg(test)]

@@ -1,7 +1,7 @@
 //! Paths from a leaf to the root.
 
 ghost use Rattle.std.specs.Prelude.{◌≡◌, ◌↔◌, ◌%◌, length, IsTrue};
-ghost use Rattle.hash_tree.specs.Tree.{root_by_path};
+ghost use Rattle.hash_tree.specs.Tree.{OwnPathsCheck, root_by_path};
 
 use crate::bytes::{bytes_over, leaf_bytes};
 use sha2::{Digest, Sha256};
@@ -29,3 +29,8 @@ pub fn check_path(root: &[u8; 32], index: u64, leaf: &[u8; 32], path: &[u8]) -> 
 {
     root_of(index, leaf, path) == *root
 }
+
+/// The path that a tree gives for a leaf leads from that leaf to the tree's root.
+pub fn own_paths()
+    ensures { OwnPathsCheck }
+{}
