@@ -12,7 +12,7 @@ mod query;
 pub use fold::fold_pair;
 pub use no_memory::NoMemory;
 pub use prover::FoldProver;
-pub use query::{QueryCheck, QueryFault};
+pub use query::{QueryCheck, QueryFault, honest_openings};
 
 /// The fold of a word is the next word, and after all folds its values are the table's extension.
 pub fn folds_of_words()

@@ -2,6 +2,7 @@
 
 ghost use Rattle.std.specs.Prelude.{◌≡◌, ◌↔◌, ◌<◌, ◌+◌, ◌*◌, ◌/◌, ◌%◌, ◌^◌, length, take, drop, IsOk, OnErr, OnOk, IfErr};
 ghost use Rattle.std.specs.Int.{from_le_bytes, w128};
+ghost use Rattle.fri_fold.specs.Honest.{OpeningsPass};
 
 use crate::fold::fold_pair;
 use additive_transform::Basis;
@@ -146,3 +147,9 @@ impl QueryCheck {
         Ok(())
     }
 }
+
+/// The openings of a prover with all folds done pass: in each round the path leads to the root, and
+/// the fold of the round is the value that the next round opens.
+pub fn honest_openings()
+    ensures { OpeningsPass }
+{}

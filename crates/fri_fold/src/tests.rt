@@ -31,6 +31,7 @@ fn smallest_table(rt: HostRuntime) -> Result<(), Fail> {
     let root = prover.root();
     assert_eq!(rt; first_half(&root), 0xba4d31c921f515e195bfb7a8803565d9);
     assert_eq!(rt; prover.bind(rt.alloc(), &basis, wide(4))?, None);
+    assert_eq!(rt; prover.tree(0).root(), root);
     let constant = prover.constant();
     assert_eq!(rt; constant.number(), 13);
     let mut out: Vec<u8> = Vec::new(rt.alloc());
