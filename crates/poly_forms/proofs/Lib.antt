@@ -1,2 +1,4 @@
 pub mod Steps
 pub mod Degrees
+pub mod Interpolating
+pub mod FormSteps

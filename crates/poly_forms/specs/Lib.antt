@@ -1,1 +1,3 @@
 pub mod Roots
+pub mod Form
+pub mod Names
