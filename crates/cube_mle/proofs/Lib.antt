@@ -1,0 +1,3 @@
+pub mod Points
+pub mod Doubling
+pub mod Folds
