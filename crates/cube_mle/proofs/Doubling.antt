@@ -53,7 +53,7 @@ module _ (x i v low high : ℕ) (old now next : List ℕ) (within : i < length o
         (ap (λ n. get_or n (length old + i) 0) next_is ∙ get_or_push (set now i low) high 0 (length old + i) long_set ∙ high_is ∙ ap (high_of x) old_value);
   }
 
-order : (a b : ℕ) → (a < b) ⊎ (b ≤ a)
+pub order : (a b : ℕ) → (a < b) ⊎ (b ≤ a)
 order a b = elim (ltb a b) as (λ t. ltb a b ≡ t → (a < b) ⊎ (b ≤ a)) [ true ↦ λ h. inl (ltb-true a b h) | false ↦ λ h. inr (ltb-false a b h) ] refl
 
 get_or-map : (f : ℕ → ℕ) (xs : List ℕ) (k : ℕ) → k < length xs → get_or (map f xs) k 0 ≡ f (get_or xs k 0)

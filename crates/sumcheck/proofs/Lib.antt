@@ -1,0 +1,6 @@
+pub mod RoundSteps
+pub mod Entries
+pub mod Lawful
+pub mod Promise
+pub mod RowSteps
+pub mod Following

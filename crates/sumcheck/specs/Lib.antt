@@ -1,0 +1,10 @@
+pub mod Claim
+pub mod Machine
+pub mod Column
+pub mod Rounds
+pub mod SumWalk
+pub mod Reduction
+pub mod Summing
+pub mod Proving
+pub mod Pair
+pub mod ColumnTables
