@@ -13,6 +13,7 @@ use tower_field::{B128, Tower};
 /// The rounds of a sum claim, whatever is summed. A refused round leaves them as they were.
 #[derive(Drop)]
 pub struct SumRounds {
+    alloc: Global,
     degree: u32,
     left: u32,
     point: Vec<B128>,
@@ -42,6 +43,7 @@ impl SumRounds {
         let point = Vec::with_capacity(alloc, vars as usize)?;
         let passed = Vec::with_capacity(alloc, degree as usize + 1)?;
         Ok(SumRounds {
+            alloc,
             degree,
             left: vars,
             point,
@@ -101,18 +103,15 @@ impl SumRounds {
         self.point.as_slice()
     }
 
-    /// The draws so far, in their memory.
-    pub fn into_point(self) -> Vec<B128>
-        ensures { result.items ≡ bound self }
+    /// The draws so far, in their memory. No rounds are left after it.
+    pub fn take_point(&mut self) -> Vec<B128>
+        ensures point { result.items ≡ bound self.old }
+        ensures none { self.new ≡ sum_claim (round_degree self.old) 0 [] 0 }
     {
-        let SumRounds {
-            degree: _,
-            left: _,
-            point,
-            value: _,
-            passed: _,
-        } = self;
-        point
+        self.left = 0;
+        self.value = B128::ZERO;
+        self.passed.clear();
+        std::mem::replace(&mut self.point, Vec::new(self.alloc))
     }
 
     /// The claim of the round that is due.
