@@ -1,0 +1,26 @@
+-- A walk and its prover, side by side.
+use Rattle.std.proofs.Common.{◌≡◌, ℕ, List, [], ◌∷◌, length, Some, refl, sym, subst}
+use Rattle.sumcheck.specs.declared.entry.Entry.{Entry}
+use Rattle.sumcheck.specs.declared.entry.Entry.TheVariants.{Message, Draw}
+use Rattle.poly_forms.specs.declared.check_kind.CheckKind.{CheckKind}
+use Rattle.poly_forms.specs.declared.draw_kind.DrawKind.{DrawKind}
+use Rattle.sumcheck.specs.Machine.{first_entry, Machine, Lawful, Filling, AwaitsMessage, AwaitsSome, AwaitsDraw}
+
+pub message_due : (es : List Entry) (c : CheckKind) (n : ℕ) → first_entry es ≡ Some (Message c n) → AwaitsSome es
+message_due [] c n h = absurd (cc)
+message_due (Message d m ∷ es) c n h = tt
+message_due (Draw k m ∷ es) c n h = absurd (cc)
+
+pub draw_due_first : (es : List Entry) (k : DrawKind) (n : ℕ) → first_entry es ≡ Some (Draw k n) → AwaitsDraw es
+draw_due_first [] c n h = absurd (cc)
+draw_due_first (Message d m ∷ es) c n h = absurd (cc)
+draw_due_first (Draw k m ∷ es) c n h = tt
+
+at_head : {S : Type 0} (M : Machine S) → Lawful M → (F : Filling) (s : S) (es : List Entry) → M.entries s ≡ es → AwaitsSome es → AwaitsMessage (length (M.honest F s)) es
+at_head M law F s [] e h = absurd h
+at_head M law F s (Message c n ∷ es) e h = (law.message F s c n es e).size
+at_head M law F s (Draw k n ∷ es) e h = absurd h
+
+-- the honest numbers are as many as are due
+pub honest_due : {S : Type 0} (M : Machine S) → Lawful M → (F : Filling) (s : S) (vs : List ℕ) → AwaitsSome (M.entries s) → vs ≡ M.honest F s → AwaitsMessage (length vs) (M.entries s)
+honest_due M law F s vs h e = subst (λ (v : List ℕ). AwaitsMessage (length v) (M.entries s)) (sym e) (at_head M law F s (M.entries s) refl h)

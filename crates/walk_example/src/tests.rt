@@ -1,0 +1,60 @@
+//! A walk against numbers from outside, and against its prover.
+
+use crate::MoveWalk;
+use std::alloc::Global;
+use sumcheck::{ColumnClaim, Next, NoMemory, Reduction, Stopping};
+use tower_field::{B128, Tower, Values};
+
+fn element(n: u64) -> B128 {
+    B128::join(n as u128, 0)
+}
+
+fn values(alloc: Global, numbers: [u64; 4], count: usize) -> Result<Values, NoMemory> {
+    let mut values = Vec::new(alloc);
+    for k in 0..4 {
+        if k < count && values.push(element(numbers[k])).is_err() {
+            return Err(NoMemory);
+        }
+    }
+    Ok(Values::from_vec(values))
+}
+
+fn claim(alloc: Global, value: u64) -> Result<ColumnClaim, NoMemory> {
+    Ok(ColumnClaim {
+        table: 3,
+        column: 5,
+        point: values(alloc, [0x77, 0x1001, 0, 0], 2)?,
+        value: element(value),
+    })
+}
+
+#[test]
+fn a_true_claim_passes(rt: HostRuntime) -> Result<(), NoMemory> {
+    let alloc = rt.alloc();
+    let mut walk = Stopping::new(MoveWalk::begin(alloc, 2, claim(alloc, 0xeb26)?)?);
+    assert!(rt; walk.message(&[0xeb51, 0x77, 0xe66f].map(element)).is_ok());
+    walk.draw(element(0x1234));
+    assert!(rt; walk.message(&[0x5891, 0x94ae, 0x1f91].map(element)).is_ok());
+    walk.draw(element(0xabcd));
+    assert!(rt; walk.message(&[element(0xe6ec)]).is_ok());
+    assert!(rt; walk.next() == Next::Done);
+    Ok(())
+}
+
+#[test]
+fn a_false_claim_stops(rt: HostRuntime) -> Result<(), NoMemory> {
+    let alloc = rt.alloc();
+    let mut walk = Stopping::new(MoveWalk::begin(alloc, 2, claim(alloc, 1)?)?);
+    let message = [0xeb51, 0x77, 0xe66f].map(element);
+    let Err(first) = walk.message(&message) else {
+        return Err(NoMemory);
+    };
+    let Err(second) = walk.message(&message) else {
+        return Err(NoMemory);
+    };
+    assert_eq!(rt; (first.left.number(), first.right.number()), (0xeb26, 1));
+    assert_eq!(rt; (second.left.number(), second.right.number()), (0xeb26, 1));
+    assert!(rt; walk.round_claim().is_none());
+    assert_eq!(rt; walk.pending_count(), 1);
+    Ok(())
+}
