@@ -1,3 +1,4 @@
 pub mod Lawful
 pub mod Meetings
 pub mod Steps
+pub mod Moving

@@ -50,3 +50,17 @@ move = summing the_sum
 abbrev pub move_of : Moved → Rounds → Option ColumnClaim → Move
 move_of t r None = adding t r
 move_of t r (Some claim) = closed claim
+
+-- the walk has come to its end
+abbrev pub IsDone : Move → Type 0
+IsDone (adding t r) = ⊥
+IsDone (closed claim) = Unit {0}
+
+-- the claim that is left has a point of n coordinates
+abbrev pub IsAtDraws : ℕ → Move → Type 0
+IsAtDraws n (adding t r) = Unit {0}
+IsAtDraws n (closed claim) = length claim.point ≡ n
+
+-- each follows from the other
+abbrev pub IsSameTruth : Type 0 → Type 0 → Type 0
+IsSameTruth P Q = (P → Q) × (Q → P)

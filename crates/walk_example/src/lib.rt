@@ -14,7 +14,7 @@ mod moved;
 
 pub use meeting::step;
 pub use move_prover::MoveProver;
-pub use move_walk::MoveWalk;
+pub use move_walk::{MoveWalk, move_again};
 pub use moved::Moved;
 
 #[cfg(test)]

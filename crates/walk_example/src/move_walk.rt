@@ -2,7 +2,10 @@
 
 ghost use Rattle.std.specs.Prelude.{◌≡◌, ◌<◌, ◌≤◌, [], length, IfOk, IfSome, None};
 ghost use Rattle.sumcheck.specs.Rounds.{sum_claim};
-ghost use Rattle.sumcheck.specs.Summing.{adding};
+ghost use Rattle.sumcheck.specs.Column.{ColumnFits, ColumnHolds};
+ghost use Rattle.sumcheck.specs.Machine.{Filling};
+ghost use Rattle.sumcheck.specs.Summing.{adding, closed};
+ghost use Rattle.walk_example.specs.Move.{move, IsAtDraws, IsDone, IsSameTruth};
 
 use crate::moved::Moved;
 use std::alloc::Global;
@@ -33,7 +36,8 @@ impl MoveWalk {
     /// The walk of a claim on a column of `vars` variables.
     pub fn begin(alloc: Global, vars: u32, claim: ColumnClaim) -> Result<MoveWalk, NoMemory>
         requires { vars ≤ 32 }
-        ensures { IfOk result (λ walk. walk ≡ adding (record { claim = claim }) (sum_claim 2 vars [] claim.value)) }
+        ensures state { IfOk result (λ walk. walk ≡ adding (record { claim = claim }) (sum_claim 2 vars [] claim.value)) }
+        ensures same { IfOk result (λ walk. (F : Filling) → length claim.point ≡ vars → ColumnFits F claim → move.fits F walk × IsSameTruth (ColumnHolds F claim) (move.holds F walk)) }
     {
         let mut rounds = SumRounds::begin(alloc, vars, 2)?;
         rounds.enter(claim.value);
@@ -45,9 +49,34 @@ impl MoveWalk {
     }
 }
 
-impl Steps for MoveWalk {
-    ghost use Rattle.walk_example.specs.Move.{move};
+impl MoveWalk {
+    /// The claim that is left at the end.
+    pub fn leave(self) -> ColumnClaim
+        requires { IsDone self }
+        ensures { self ≡ closed result }
+    {
+        let MoveWalk {
+            moved: _,
+            rounds: _,
+            closed,
+        } = self;
+        match closed {
+            Some(claim) => claim,
+            None => unreachable!(),
+        }
+    }
+}
 
+/// The walk of the claim that a walk has left: where one is true the other is, for every filling.
+pub fn move_again(alloc: Global, vars: u32, first: MoveWalk) -> Result<MoveWalk, NoMemory>
+    requires few { vars ≤ 32 }
+    requires done { IsDone first }
+    ensures { IfOk result (λ second. (F : Filling) → IsAtDraws vars first → move.fits F first → move.fits F second × IsSameTruth (move.holds F first) (move.holds F second)) }
+{
+    MoveWalk::begin(alloc, vars, first.leave())
+}
+
+impl Steps for MoveWalk {
     ghost machine = { move };
 
     fn is_lawful() {}

@@ -1,8 +1,8 @@
 //! A walk against numbers from outside, and against its prover.
 
-use crate::MoveWalk;
+use crate::{MoveWalk, move_again};
 use std::alloc::Global;
-use sumcheck::{ColumnClaim, Next, NoMemory, Reduction, Stopping};
+use sumcheck::{ColumnClaim, Next, NoMemory, Reduction, Steps, Stopping};
 use tower_field::{B128, Tower, Values};
 
 fn element(n: u64) -> B128 {
@@ -38,6 +38,8 @@ fn a_true_claim_passes(rt: HostRuntime) -> Result<(), NoMemory> {
     walk.draw(element(0xabcd));
     assert!(rt; walk.message(&[element(0xe6ec)]).is_ok());
     assert!(rt; walk.next() == Next::Done);
+    let second = move_again(alloc, 2, walk.into_walk())?;
+    assert!(rt; second.round_claim() == Some(element(0xe6ec)));
     Ok(())
 }
 
