@@ -81,7 +81,7 @@ fn folded(alloc: Global, log: u32) -> Result<B128, NoMemory>
     let basis = Basis::new(alloc, log + 2)?;
     let mut prover = FoldProver::commit(alloc, &basis, values)?;
     'folds: for j in 0..log {
-        let _root = prover.bind(alloc, &basis, B128::from_bytes([j as u8 + 1; 16]))?;
+        let _root = prover.bind(&basis, B128::from_bytes([j as u8 + 1; 16]))?;
     }
     Ok(prover.constant())
 }

@@ -16,6 +16,7 @@ use tower_field::{B128, Tower};
 /// sees m, the table and the draws.
 #[derive(Drop)]
 pub struct FoldProver {
+    alloc: Global,
     log: u32,
     values: Vec<B128>,
     draws: Vec<B128>,
@@ -46,7 +47,8 @@ fn tree_of(alloc: Global, word: &[B128], log: u32) -> Result<Tree, NoMemory>
 impl FoldProver {
     ghost use Rattle.fri_fold.specs.Prover.{Extends, bound, leaves_at, newest_root, openings};
 
-    /// Makes the word of a table at four times its length, and the word's tree.
+    /// Makes the word of a table at four times its length, and the word's tree. The prover keeps
+    /// `alloc` for its later words.
     pub fn commit(alloc: Global, basis: &Basis, values: Vec<B128>) -> Result<FoldProver, NoMemory>
         requires log { 3 ≤ basis.now }
         requires len { length values.items ≡ 2 ^ (basis.now - 2) }
@@ -58,6 +60,7 @@ impl FoldProver {
         let mut trees: Vec<Tree> = Vec::new(alloc);
         trees.push(tree)?;
         Ok(FoldProver {
+            alloc,
             log,
             values,
             draws: Vec::new(alloc),
@@ -85,12 +88,7 @@ impl FoldProver {
 
     /// Folds the newest word at a draw. The answer is the root of the new word's tree, or `None`
     /// after the last fold. After `NoMemory` nothing has changed.
-    pub fn bind(
-        &mut self,
-        alloc: Global,
-        basis: &Basis,
-        r: B128,
-    ) -> Result<Option<[u8; 32]>, NoMemory>
+    pub fn bind(&mut self, basis: &Basis, r: B128) -> Result<Option<[u8; 32]>, NoMemory>
         requires folds { length self.old.draws < self.old.log }
         requires basis { basis.now ≡ self.old.log + 2 }
         ensures ok { OnOk result (self.new ≡ bound self.old r) }
@@ -99,13 +97,13 @@ impl FoldProver {
         ensures err { OnErr result (self.new ≡ self.old) }
     {
         let round = self.draws.len() as u32;
-        let word = fold_word(alloc, basis, round, self.word.as_slice(), r)?;
+        let word = fold_word(self.alloc, basis, round, self.word.as_slice(), r)?;
         if round + 1 == self.log {
             self.draws.push(r)?;
             self.word = word;
             return Ok(None);
         }
-        let tree = tree_of(alloc, word.as_slice(), self.log - round)?;
+        let tree = tree_of(self.alloc, word.as_slice(), self.log - round)?;
         let root = tree.root();
         self.trees.reserve(1)?;
         self.draws.push(r)?;
@@ -119,7 +117,7 @@ impl FoldProver {
 
     /// Appends the leaf and the path of a query in each round. After `NoMemory` the list begins with
     /// its old items, and may hold some of the new ones.
-    pub fn open_query(&self, alloc: Global, index: u64, out: &mut Vec<u8>) -> Result<(), NoMemory>
+    pub fn open_query(&self, index: u64, out: &mut Vec<u8>) -> Result<(), NoMemory>
         requires index { index < 2 ^ (self.now.log + 1) }
         requires folds { length self.now.draws ≡ self.now.log }
         ensures ok { OnOk result (out.new.items ≡ out.old.items ++ openings self.now index self.now.log) }
@@ -129,7 +127,7 @@ impl FoldProver {
             let place = index >> round;
             let tree = self.tree(round);
             out.extend_from_slice(tree.leaf(place))?;
-            let path = tree.path(alloc, place)?;
+            let path = tree.path(self.alloc, place)?;
             out.extend_from_slice(path.as_slice())?;
         }
         Ok(())

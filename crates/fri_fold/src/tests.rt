@@ -30,12 +30,12 @@ fn smallest_table(rt: HostRuntime) -> Result<(), Fail> {
     let mut prover = FoldProver::commit(rt.alloc(), &basis, values)?;
     let root = prover.root();
     assert_eq!(rt; first_half(&root), 0xba4d31c921f515e195bfb7a8803565d9);
-    assert_eq!(rt; prover.bind(rt.alloc(), &basis, wide(4))?, None);
+    assert_eq!(rt; prover.bind(&basis, wide(4))?, None);
     assert_eq!(rt; prover.tree(0).root(), root);
     let constant = prover.constant();
     assert_eq!(rt; constant.number(), 13);
     let mut out: Vec<u8> = Vec::new(rt.alloc());
-    prover.open_query(rt.alloc(), 3, &mut out)?;
+    prover.open_query(3, &mut out)?;
     assert_eq!(rt; out.len(), 96);
     assert_eq!(rt;
         first_half(&Sha256::digest(out.as_slice())),
@@ -119,7 +119,7 @@ fn eight_folds(rt: HostRuntime) -> Result<(), Fail> {
     let mut roots: Vec<[u8; 32]> = Vec::new(rt.alloc());
     roots.push(prover.root())?;
     'folds: for j in 0..8u8 {
-        let answer = prover.bind(rt.alloc(), &basis, B128::from_bytes([j + 1; 16]))?;
+        let answer = prover.bind(&basis, B128::from_bytes([j + 1; 16]))?;
         assert_eq!(rt; answer.is_none(), j == 7);
         if let Some(root) = answer {
             roots.push(root)?;
@@ -143,7 +143,7 @@ fn eight_folds(rt: HostRuntime) -> Result<(), Fail> {
     assert_eq!(rt; constant.number(), 0x4940d0545fb10fcedf54b713ceed56c6);
 
     let mut out: Vec<u8> = Vec::new(rt.alloc());
-    prover.open_query(rt.alloc(), 300, &mut out)?;
+    prover.open_query(300, &mut out)?;
     assert_eq!(rt; out.len(), 1664);
     assert_eq!(rt;
         first_half(&Sha256::digest(out.as_slice())),
