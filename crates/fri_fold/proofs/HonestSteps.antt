@@ -1,9 +1,10 @@
 -- Honest openings pass.
-use Rattle.std.proofs.Common.{◌≡◌, ℕ, zero, suc, ◌+◌, ◌-◌, ◌*◌, ◌/◌, ◌%◌, ◌^◌, ◌<◌, List, [], ◌∷◌, ◌++◌, cond, eqb, get_or, length, replicate, take, subst, refl, sym, ◌∙◌, ap, arith, add-mul, mul_assoc, mul_comm}
-use Rattle.std.proofs.Math.Nat.{pow-suc, div-div-eq-div-mul, div-lt_iff_lt-mul}
+use Rattle.std.proofs.Common.{◌≡◌, ℕ, zero, suc, ◌+◌, ◌-◌, ◌*◌, ◌/◌, ◌%◌, ◌^◌, ◌<◌, List, [], ◌∷◌, ◌++◌, cond, eqb, get_or, length, replicate, take, subst, refl, sym, ◌∙◌, ap, arith}
+use Rattle.std.proofs.Math.Nat.{div-div-eq-div-mul, div-lt_iff_lt-mul}
 use Rattle.std.proofs.lemmas.Nat.{pow_pos}
 use Rattle.std.proofs.lemmas.List.{take_at, drop_at, take_all, take_more, length-take}
-use Rattle.std.specs.Int.{w128, to_le_bytes, from_le_bytes, sum_through, byte_worth, byte_at}
+use Rattle.std.specs.Int.{w128, to_le_bytes, from_le_bytes}
+use Rattle.tower_field.proofs.BytesAgain.{number_again}
 use Rattle.cube_laws.specs.Extension.{extension}
 use Rattle.word_laws.specs.CodeWord.{hat, fold_pair}
 use Rattle.hash_tree.specs.Tree.{IsRoot, IsPath}
@@ -14,25 +15,6 @@ use Rattle.fri_fold.specs.Query.{Check, Passes, after, first, second, opened_of}
 use Rattle.fri_fold.specs.Honest.{IsHonest, leaf_at, word_at}
 use Rattle.fri_fold.proofs.Proving.{length-leaves_at, length-word, place_in}
 use Rattle.fri_fold.proofs.Words.{next_word, last_word_is}
-
--- ---- 16 bytes of a number give it again
-byte_and_rest : (n p : ℕ) → n / p ≡ n / p % 256 + n / (p * 256) * 256
-byte_and_rest n p = omega (arith, div-div-eq-div-mul n p 256)
-
--- the lowest bytes of a number and the rest of it
-parts : (n k : ℕ) → sum_through (λ i. byte_worth i (byte_at i n)) k + n / 256 ^ suc k * 256 ^ suc k ≡ n
-parts n zero = omega arith
-parts n (suc k) =
-    let h = parts n k in
-    let q = byte_and_rest n (256 ^ suc k) in
-    let e = pow-suc 256 (suc k) in
-    step (sum_through (λ i. byte_worth i (byte_at i n)) k) n (n / 256 ^ suc k) (256 ^ suc k) (n / 256 ^ suc (suc k)) (256 ^ suc (suc k)) h (rw e q) e
-  where
-    step : (s n q w r v : ℕ) → s + q * w ≡ n → q ≡ q % 256 + r * 256 → v ≡ w * 256 → s + q % 256 * w + r * v ≡ n
-    step s n q w r v h e f = let a = add-mul (q % 256) (r * 256) w in let b = mul_assoc r 256 w in let c = mul_comm 256 w in let k = ap (λ x. x * w) e in let m = ap (λ x. r * x) (f ∙ sym c) in omega arith
-
-pub bytes_again : (n : ℕ) → n < 2 ^ 128 → from_le_bytes w128 (to_le_bytes w128 n) ≡ n
-bytes_again n fits = let h = parts n 15 in let z : n / 256 ^ 16 ≡ 0 = omega arith in omega arith
 
 -- ---- what stands at a place of a list of pairs
 pairs_at : {X : Type 0} (make : ℕ → ℕ → ℕ → X) (p q : ℕ) (w : List ℕ) (d : X) → 2 * q + 1 < length w → get_or (pairs make p w) q d ≡ make (p + q) (get_or w (2 * q) 0) (get_or w (2 * q + 1) 0)
@@ -51,13 +33,13 @@ pub leaf_first : (w : List ℕ) (q : ℕ) → 2 * q + 1 < length w → get_or w 
 leaf_first w q l s =
     ap first (pairs_at (λ p f g. to_le_bytes w128 f ++ to_le_bytes w128 g) 0 q w [] l)
     ∙ ap (from_le_bytes w128) (take_at (to_le_bytes w128 (get_or w (2 * q) 0)) (to_le_bytes w128 (get_or w (2 * q + 1) 0)) 16 refl)
-    ∙ bytes_again (get_or w (2 * q) 0) s
+    ∙ number_again (get_or w (2 * q) 0) s
 
 pub leaf_second : (w : List ℕ) (q : ℕ) → 2 * q + 1 < length w → get_or w (2 * q + 1) 0 < 2 ^ 128 → second (get_or (leaves w) q []) ≡ get_or w (2 * q + 1) 0
 leaf_second w q l s =
     ap second (pairs_at (λ p f g. to_le_bytes w128 f ++ to_le_bytes w128 g) 0 q w [] l)
     ∙ ap (from_le_bytes w128) (drop_at (to_le_bytes w128 (get_or w (2 * q) 0)) (to_le_bytes w128 (get_or w (2 * q + 1) 0)) 16 refl)
-    ∙ bytes_again (get_or w (2 * q + 1) 0) s
+    ∙ number_again (get_or w (2 * q + 1) 0) s
 
 -- the one of two neighbours that stands at n
 chosen : (w : List ℕ) (n q : ℕ) → q ≡ n / 2 → cond (eqb (n % 2) 1) (get_or w (2 * q + 1) 0) (get_or w (2 * q) 0) ≡ get_or w n 0
