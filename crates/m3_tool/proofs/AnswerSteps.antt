@@ -10,18 +10,17 @@ use Rattle.table_text.specs.declared.fault.TextStop.{TextStop}
 use Rattle.table_text.specs.declared.fault.TextStop.TheVariants.{Fault, NoMemory}
 use Rattle.table_text.specs.Faults.{IsTablesText, IsFirstFault}
 use Rattle.m3_tool.specs.Limits.{max_tables_file, max_witness_file}
-use Rattle.m3_tool.specs.declared.shape.ConstraintShape.{ConstraintShape}
-use Rattle.m3_tool.specs.declared.shape.TableShape.{TableShape}
-use Rattle.m3_tool.specs.declared.judge.Violation.{Violation}
+use Rattle.table_shape.specs.declared.shape.ConstraintShape.{ConstraintShape}
+use Rattle.table_shape.specs.declared.shape.TableShape.{TableShape}
 use Rattle.m3_tool.specs.declared.status.Status.TheVariants.{No, Tables, TooLong}
-use Rattle.m3_tool.specs.declared.witness.WitnessStop.{WitnessStop}
-use Rattle.m3_tool.specs.declared.resolve.ShapeFault.{ShapeFault}
+use Rattle.witness_reader.specs.declared.fault.WitnessStop.{WitnessStop}
+use Rattle.table_shape.specs.declared.fault.ShapeFault.{ShapeFault}
 use Rattle.m3_tool.specs.declared.check.Shaped.{Shaped}
 use Rattle.m3_tool.specs.declared.check.Shaped.TheVariants as shaped
-use Rattle.m3_tool.specs.Witness.{WitnessData, IsOf, filling_of}
+use Rattle.witness_reader.specs.Witness.{WitnessData, IsOf, filling_of}
 use Rattle.m3_tool.specs.Checking.{IsShaped, IsShapedFile}
-use Rattle.m3_tool.specs.Filling.{Filling}
-use Rattle.m3_tool.specs.Satisfies.{IsFirstViolation}
+use Rattle.table_shape.specs.Filling.{Filling}
+use Rattle.table_shape.specs.Satisfies.{Violation, IsFirstViolation}
 use Rattle.m3_tool.specs.Lines.{violation_line, too_long_line, shape_fault_line}
 use Rattle.m3_tool.specs.Run.{Answer, answer, IsJudgement, IsWitnessAnswer, IsWitnessFileAnswer, IsTextAnswer, IsCheckAnswer, witness_refusal}
 use Rattle.m3_tool.specs.Answer.{IsReadOnce, answer_of}

@@ -6,16 +6,15 @@ use Rattle.std.proofs.lemmas.Bool.Decides.{nat_tests}
 use Rattle.table_text.specs.declared.decl.Decl.{Decl}
 use Rattle.table_text.specs.declared.fault.TextFault.{TextFault}
 use Rattle.m3_tool.specs.Limits.{max_tables_file, max_witness_file}
-use Rattle.m3_tool.specs.declared.shape.TableShape.{TableShape}
-use Rattle.m3_tool.specs.declared.resolve.ShapeFault.{ShapeFault}
-use Rattle.m3_tool.specs.declared.witness.WitnessStop.{WitnessStop}
-use Rattle.m3_tool.specs.declared.judge.Violation.{Violation}
+use Rattle.table_shape.specs.declared.shape.TableShape.{TableShape}
+use Rattle.table_shape.specs.declared.fault.ShapeFault.{ShapeFault}
+use Rattle.witness_reader.specs.declared.fault.WitnessStop.{WitnessStop}
 use Rattle.m3_tool.specs.declared.status.Status.{Status}
 use Rattle.m3_tool.specs.declared.status.Status.TheVariants.{TooLong}
-use Rattle.m3_tool.specs.Shape.{shape_of}
-use Rattle.m3_tool.specs.Filling.{Filling}
-use Rattle.m3_tool.specs.Satisfies.{Satisfies, IsFirstViolation}
-use Rattle.m3_tool.specs.Witness.{WitnessData, witness_of, filling_of}
+use Rattle.table_shape.specs.Shape.{shape_of}
+use Rattle.table_shape.specs.Filling.{Filling}
+use Rattle.table_shape.specs.Satisfies.{Satisfies, Violation, IsFirstViolation}
+use Rattle.witness_reader.specs.Witness.{WitnessData, witness_of, filling_of}
 use Rattle.m3_tool.specs.Lines.{too_long_line}
 use Rattle.m3_tool.specs.Run.{Answer, answer, IsJudgement, IsWitnessAnswer, IsWitnessFileAnswer, IsShapeAnswer, IsTextAnswer, IsCheckAnswer, witness_refusal}
 use Rattle.m3_tool.specs.Answer.{IsReadOnce, IsFileReadOnce}

@@ -1,15 +1,14 @@
 -- Steps of the search for the first value that isn't 0.
-use Rattle.std.proofs.Common.{◌≡◌, ℕ, zero, suc, ◌<◌, ◌≤◌, ◌+◌, ◌^◌, List, [], ◌∷◌, length, get_or, Some, sym, ◌∙◌, subst, arith, below_more}
+use Rattle.std.proofs.Common.{◌≡◌, ℕ, ◌<◌, ◌+◌, ◌^◌, List, length, Some, sym, ◌∙◌, subst, arith, below_more}
 use Rattle.std.specs.List.{slice_get, slice_index}
 use Rattle.std.proofs.lemmas.Option.{slice_get_within}
-use Rattle.m3_tool.specs.declared.shape.ConstraintShape.{ConstraintShape}
-use Rattle.m3_tool.specs.declared.shape.TableShape.{TableShape}
-use Rattle.m3_tool.specs.Shape.{ConstraintsFit, TableFits, TablesFit}
-use Rattle.m3_tool.specs.Filling.{Filling}
-use Rattle.m3_tool.specs.Satisfies.{value_at, IsZeroOnRows, AreZero, TablesAreZero, IsFirstViolation}
-use Rattle.m3_tool.specs.Judging.{IsZeroAtIndices, IsFirstInRow, IsFirstFound, IsFirstInTable}
+use Rattle.table_shape.specs.declared.shape.ConstraintShape.{ConstraintShape}
+use Rattle.table_shape.specs.declared.shape.TableShape.{TableShape}
+use Rattle.table_shape.specs.Filling.{Filling}
+use Rattle.table_shape.specs.Satisfies.{value_at, IsZeroOnRows, AreZero, TablesAreZero, IsFirstViolation}
+use Rattle.m3_tool.specs.Judging.{seen, IsZeroAtIndices, IsFirstInRow, IsFirstFound, IsFirstInTable}
 use Rattle.m3_tool.specs.declared.judge.Found.{Found}
-use Rattle.m3_tool.specs.declared.judge.Violation.{Violation}
+use Rattle.m3_tool.specs.declared.judge.Violation.{Violation as OwnViolation}
 
 pub IsZeroOnRows-more : (filling : Filling) (t : ℕ) (constraint : ConstraintShape) (n : ℕ)
     → IsZeroOnRows filling t constraint n → IsZeroAtIndices filling t constraint n (2 ^ constraint.log_values) → IsZeroOnRows filling t constraint (n + 1)
@@ -51,18 +50,8 @@ TablesAreZero-more filling tables rows n here is before none t table z constrain
     some_injective : {X : Type 0} {x y : X} → Some x ≡ Some y → x ≡ y
     some_injective e = cc
 
-pub ConstraintsFit-get : (constraints : List ConstraintShape) (i : ℕ) (d : ConstraintShape) → ConstraintsFit constraints → i < length constraints → (get_or constraints i d).log_values ≤ 7
-ConstraintsFit-get [] i d fit below = absurd (omega arith)
-ConstraintsFit-get (z ∷ constraints) zero d fit below = fit.0
-ConstraintsFit-get (z ∷ constraints) (suc i) d fit below = ConstraintsFit-get constraints i d fit.1 (omega arith)
-
-pub TablesFit-get : (tables : List TableShape) (i : ℕ) (d : TableShape) → TablesFit tables → i < length tables → TableFits (get_or tables i d)
-TablesFit-get [] i d fit below = absurd (omega arith)
-TablesFit-get (t ∷ tables) zero d fit below = fit.0
-TablesFit-get (t ∷ tables) (suc i) d fit below = TablesFit-get tables i d fit.1 (omega arith)
-
-pub found_in_table : (filling : Filling) (tables : List TableShape) (rows : List ℕ) (n : ℕ) (table : TableShape) (v : Violation)
-    → slice_get tables n ≡ Some table → TablesAreZero tables rows filling n → v.table ≡ n → IsFirstInTable filling table (slice_index rows n) v → IsFirstViolation tables rows filling v
+pub found_in_table : (filling : Filling) (tables : List TableShape) (rows : List ℕ) (n : ℕ) (table : TableShape) (v : OwnViolation)
+    → slice_get tables n ≡ Some table → TablesAreZero tables rows filling n → v.table ≡ n → IsFirstInTable filling table (slice_index rows n) v → IsFirstViolation tables rows filling (seen v)
 found_in_table filling tables rows n table v at before is first =
     let same : n ≡ v.table = sym is in
     let found : IsFirstFound filling v.table first.constraint (slice_index rows v.table) (record { row = v.row; index = v.index; value = v.value }) =

@@ -6,14 +6,14 @@ use Rattle.std.proofs.lemmas.Bool.Decides.{nat_tests}
 use Rattle.table_text.specs.declared.decl.Decl.{Decl}
 use Rattle.table_text.specs.Faults.{IsTablesText}
 use Rattle.m3_tool.specs.Limits.{max_tables_file, max_witness_file}
-use Rattle.m3_tool.specs.declared.shape.TableShape.{TableShape}
-use Rattle.m3_tool.specs.declared.resolve.ShapeFault.{ShapeFault}
-use Rattle.m3_tool.specs.declared.witness.WitnessStop.{WitnessStop}
-use Rattle.m3_tool.specs.declared.witness.WitnessStop.TheVariants as stop
+use Rattle.table_shape.specs.declared.shape.TableShape.{TableShape}
+use Rattle.table_shape.specs.declared.fault.ShapeFault.{ShapeFault}
+use Rattle.witness_reader.specs.declared.fault.WitnessStop.{WitnessStop}
+use Rattle.witness_reader.specs.declared.fault.WitnessStop.TheVariants as stop
 use Rattle.m3_tool.specs.declared.status.Status.{Status}
 use Rattle.m3_tool.specs.declared.status.Status.TheVariants.{Yes, No, Words, Tables, Witness, ReadFault, WriteFault, TooLarge, NoMemory, TooLong}
-use Rattle.m3_tool.specs.Shape.{shape_of}
-use Rattle.m3_tool.specs.Witness.{WitnessData, witness_of, filling_of}
+use Rattle.table_shape.specs.Shape.{shape_of}
+use Rattle.witness_reader.specs.Witness.{WitnessData, witness_of, filling_of}
 use Rattle.m3_tool.specs.Lines.{satisfied_line, too_long_line, shape_fault_line}
 use Rattle.m3_tool.specs.Run.{Answer, answer, CheckReadsFailed, IsJudgement, IsWitnessAnswer, IsWitnessFileAnswer, IsTextAnswer, IsCheckAnswer, HasShape, HasWitness, IsSatisfied, IsViolated, witness_refusal}
 use Rattle.m3_tool.specs.declared.check.Shaped.TheVariants as shaped
@@ -25,8 +25,8 @@ use Rattle.m3_tool.specs.Checking.{IsShapedFile, OnReadFault}
 use Rattle.byte_ends.specs.Shelf.{ShelfState, bytes_of, ReadFailed, ReadsOnly, SameFaults}
 use Rattle.byte_ends.proofs.ReadSteps.{failed_since}
 use Rattle.m3_tool.proofs.AnswerSteps.{within_tables, within_witness}
-use Rattle.m3_tool.proofs.MeantShape.{shaped_where_meant}
-use Rattle.m3_tool.proofs.GivenWitness.{read_where_given}
+use Rattle.table_shape.proofs.MeantShape.{shaped_where_meant}
+use Rattle.witness_reader.proofs.GivenWitness.{read_where_given}
 
 -- a status that a judged witness ends with
 abbrev pub IsVerdictStatus : Status → Type 0

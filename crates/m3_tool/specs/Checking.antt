@@ -8,7 +8,7 @@ use Rattle.m3_tool.specs.declared.check.Shaped.{Shaped}
 use Rattle.m3_tool.specs.declared.check.Shaped.TheVariants as shaped
 use Rattle.m3_tool.specs.declared.status.Status.{Status}
 use Rattle.m3_tool.specs.declared.status.Status.TheVariants.{Yes, No, Words, Tables, Witness, ReadFault, WriteFault, TooLarge, NoMemory, TooLong}
-use Rattle.m3_tool.specs.Shape.{shape_of}
+use Rattle.table_shape.specs.Shape.{shape_of}
 use Rattle.m3_tool.specs.Run.{IsTextAnswer, IsCheckAnswer}
 use Rattle.m3_tool.specs.declared.check.Stop.{Stop}
 use Rattle.m3_tool.specs.declared.check.Stop.TheVariants as stop

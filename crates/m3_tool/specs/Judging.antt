@@ -1,14 +1,18 @@
 -- The first value that isn't 0, searched part by part.
 -- Source: docs/ARCHITECTURE.md, "Within m3_tool".
 use Rattle.std.specs.Prelude.{◌≡◌, ◌≢◌, ℕ, ◌^◌, ◌<◌, List, slice_get, Some, Option, MatchOption}
-use Rattle.m3_tool.specs.declared.shape.ConstraintShape.{ConstraintShape}
-use Rattle.m3_tool.specs.declared.shape.TableShape.{TableShape}
+use Rattle.table_shape.specs.declared.shape.ConstraintShape.{ConstraintShape}
+use Rattle.table_shape.specs.declared.shape.TableShape.{TableShape}
 use Rattle.m3_tool.specs.declared.judge.Found.{Found}
-use Rattle.m3_tool.specs.declared.judge.Violation.{Violation}
+use Rattle.m3_tool.specs.declared.judge.Violation.{Violation as OwnViolation}
 use Rattle.m3_tool.specs.declared.judge.Verdict.{Verdict}
 use Rattle.m3_tool.specs.declared.judge.Verdict.TheVariants.{Satisfied, Violated}
-use Rattle.m3_tool.specs.Filling.{Filling}
-use Rattle.m3_tool.specs.Satisfies.{value_at, IsZeroOnRows, AreZero, Satisfies, IsFirstViolation}
+use Rattle.table_shape.specs.Filling.{Filling}
+use Rattle.table_shape.specs.Satisfies.{value_at, IsZeroOnRows, AreZero, Satisfies, Violation, IsFirstViolation}
+
+-- a violation as definitions have it
+abbrev pub seen : OwnViolation → Violation
+seen v = record { table = v.table; constraint = v.constraint; row = v.row; index = v.index; value = v.value }
 
 -- the first indices of a row, n of them, have the value 0
 abbrev pub IsZeroAtIndices : Filling → ℕ → ConstraintShape → ℕ → ℕ → Type 0
@@ -36,16 +40,16 @@ abbrev pub FindsFirst : Filling → ℕ → ConstraintShape → ℕ → Option F
 FindsFirst filling t constraint rows found = MatchOption found (IsZeroOnRows filling t constraint rows) (IsFirstFound filling t constraint rows)
 
 -- a constraint of a table whose first value that isn't 0 is this, after constraints that are 0
-pub record IsFirstInTable (filling : Filling) (table : TableShape) (rows : ℕ) (v : Violation) : Type 0 where
+pub record IsFirstInTable (filling : Filling) (table : TableShape) (rows : ℕ) (v : OwnViolation) : Type 0 where
   pub constraint : ConstraintShape
   pub is : slice_get table.constraints v.constraint ≡ Some constraint
   pub found : IsFirstFound filling v.table constraint rows (record { row = v.row; index = v.index; value = v.value })
   pub before : AreZero filling v.table table rows v.constraint
 
-abbrev pub FindsFirstInTable : Filling → ℕ → TableShape → ℕ → ℕ → Option Violation → Type 0
+abbrev pub FindsFirstInTable : Filling → ℕ → TableShape → ℕ → ℕ → Option OwnViolation → Type 0
 FindsFirstInTable filling t table rows n found = MatchOption found (AreZero filling t table rows n) (λ v. (v.table ≡ t) × IsFirstInTable filling table rows v)
 
 -- what a verdict says
 abbrev pub IsVerdict : List TableShape → List ℕ → Filling → Verdict → Type 0
 IsVerdict tables rows filling Satisfied = Satisfies tables rows filling
-IsVerdict tables rows filling (Violated v) = IsFirstViolation tables rows filling v
+IsVerdict tables rows filling (Violated v) = IsFirstViolation tables rows filling (seen v)

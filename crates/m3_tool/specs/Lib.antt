@@ -1,17 +1,4 @@
-pub mod AndThen
 pub mod Limits
-pub mod Size
-pub mod Value
-pub mod Shape
-pub mod ShapeGives
-pub mod ShapeMeaning
-pub mod Digits
-pub mod Filling
-pub mod Satisfies
-pub mod Witness
-pub mod WitnessGives
-pub mod WitnessMeaning
-pub mod Store
 pub mod Judging
 pub mod Status
 pub mod Command

@@ -5,17 +5,17 @@ use Rattle.std.specs.Fmt.{decimal, digits}
 use Rattle.table_text.specs.declared.fault.TextFault.{TextFault}
 use Rattle.table_text.specs.declared.fault.TextKind.{TextKind}
 use Rattle.table_text.specs.declared.fault.TextKind.TheVariants as text
-use Rattle.m3_tool.specs.declared.resolve.ShapeFault.{ShapeFault}
-use Rattle.m3_tool.specs.declared.resolve.ShapeKind.{ShapeKind}
-use Rattle.m3_tool.specs.declared.resolve.ShapeKind.TheVariants as shape
-use Rattle.m3_tool.specs.declared.witness.WitnessPlace.{WitnessPlace}
-use Rattle.m3_tool.specs.declared.witness.WitnessPlace.TheVariants.{Whole, Table, Column}
-use Rattle.m3_tool.specs.declared.witness.WitnessKind.{WitnessKind}
-use Rattle.m3_tool.specs.declared.witness.WitnessKind.TheVariants as witness
-use Rattle.m3_tool.specs.declared.witness.WitnessFault.{WitnessFault}
-use Rattle.m3_tool.specs.declared.shape.ConstraintShape.{ConstraintShape}
-use Rattle.m3_tool.specs.declared.shape.TableShape.{TableShape}
-use Rattle.m3_tool.specs.declared.judge.Violation.{Violation}
+use Rattle.table_shape.specs.declared.fault.ShapeFault.{ShapeFault}
+use Rattle.table_shape.specs.declared.fault.ShapeKind.{ShapeKind}
+use Rattle.table_shape.specs.declared.fault.ShapeKind.TheVariants as shape
+use Rattle.witness_reader.specs.declared.fault.WitnessPlace.{WitnessPlace}
+use Rattle.witness_reader.specs.declared.fault.WitnessPlace.TheVariants.{Whole, Table, Column}
+use Rattle.witness_reader.specs.declared.fault.WitnessKind.{WitnessKind}
+use Rattle.witness_reader.specs.declared.fault.WitnessKind.TheVariants as witness
+use Rattle.witness_reader.specs.declared.fault.WitnessFault.{WitnessFault}
+use Rattle.table_shape.specs.declared.shape.ConstraintShape.{ConstraintShape}
+use Rattle.table_shape.specs.declared.shape.TableShape.{TableShape}
+use Rattle.table_shape.specs.Satisfies.{Violation}
 
 -- a number in hexadecimal digits
 abbrev pub hex : ℕ → List ℕ

@@ -7,18 +7,17 @@ use Rattle.table_text.specs.declared.decl.Decl.{Decl}
 use Rattle.table_text.specs.declared.fault.TextFault.{TextFault}
 use Rattle.table_text.specs.Faults.{IsTablesText, IsFirstFault}
 use Rattle.m3_tool.specs.Limits.{max_tables_file, max_witness_file}
-use Rattle.m3_tool.specs.declared.shape.TableShape.{TableShape}
-use Rattle.m3_tool.specs.declared.judge.Violation.{Violation}
-use Rattle.m3_tool.specs.declared.witness.WitnessStop.{WitnessStop}
-use Rattle.m3_tool.specs.declared.witness.WitnessStop.TheVariants as stop
+use Rattle.table_shape.specs.declared.shape.TableShape.{TableShape}
+use Rattle.witness_reader.specs.declared.fault.WitnessStop.{WitnessStop}
+use Rattle.witness_reader.specs.declared.fault.WitnessStop.TheVariants as stop
 use Rattle.m3_tool.specs.declared.status.Status.{Status}
 use Rattle.m3_tool.specs.declared.status.Status.TheVariants.{Yes, No, Words, Tables, Witness, ReadFault, WriteFault, TooLarge, NoMemory, TooLong}
-use Rattle.m3_tool.specs.Shape.{shape_of}
-use Rattle.m3_tool.specs.ShapeMeaning.{IsShape}
-use Rattle.m3_tool.specs.Filling.{Filling}
-use Rattle.m3_tool.specs.Satisfies.{Satisfies, IsFirstViolation}
-use Rattle.m3_tool.specs.Witness.{WitnessData, witness_of, filling_of}
-use Rattle.m3_tool.specs.WitnessMeaning.{GivesWitness}
+use Rattle.table_shape.specs.Shape.{shape_of}
+use Rattle.table_shape.specs.ShapeMeaning.{IsShape}
+use Rattle.table_shape.specs.Filling.{Filling}
+use Rattle.table_shape.specs.Satisfies.{Satisfies, Violation, IsFirstViolation}
+use Rattle.witness_reader.specs.Witness.{WitnessData, witness_of, filling_of}
+use Rattle.witness_reader.specs.WitnessMeaning.{GivesWitness}
 use Rattle.m3_tool.specs.Command.{Command, check, help, version}
 use Rattle.m3_tool.specs.Lines.{satisfied_line, violation_line, text_fault_line, shape_fault_line, witness_fault_line, too_large_line, too_long_line, words_line, no_memory_line, help_text, version_line}
 

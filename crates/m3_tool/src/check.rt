@@ -13,14 +13,13 @@ use crate::lines::{
     shape_fault_line, text_fault_line, too_large_line, too_long_line, violation_line,
     witness_fault_line,
 };
-use crate::resolve::{ShapeStop, resolve};
-use crate::shape::Shape;
 use crate::status::Status;
-use crate::store::Store;
-use crate::witness::{WitnessStop, read_witness};
 use byte_ends::{Shelf, WholeStop, read_whole};
+use column_store::Store;
 use std::alloc::{AllocError, Global};
+use table_shape::{Shape, ShapeStop, resolve};
 use table_text::{TextStop, read_tables};
+use witness_reader::{WitnessStop, read_witness};
 
 /// The shape of a text, or the answer to a text that has none.
 #[derive(Drop)]
@@ -62,7 +61,7 @@ pub(crate) fn check<S: Shelf>(
     ensures reads_only { ReadsOnly (S.state shelf.old) (S.state shelf.new) }
 {
     match shape_of_file(alloc, shelf, tables_file)? {
-        Shaped::Shape(shape) => answer_to_file(alloc, shelf, witness_file, shape),
+        Shaped::Shape(shape) => answer_to_file(alloc, shelf, witness_file, &shape),
         Shaped::Refused(answer) => Ok(answer),
     }
 }
@@ -116,9 +115,9 @@ fn answer_to_file<S: Shelf>(
     alloc: Global,
     shelf: &mut S,
     name: &str,
-    shape: Shape,
+    shape: &Shape,
 ) -> Result<Answer, Stop>
-    ensures due { IsTrue (S.state shelf.old).told → IfOk result (λ a. IsWitnessFileAnswer shape (bytes_of (S.state shelf.old) name.now) (answer_of a)) }
+    ensures due { IsTrue (S.state shelf.old).told → IfOk result (λ a. IsWitnessFileAnswer shape.now (bytes_of (S.state shelf.old) name.now) (answer_of a)) }
     ensures kind { IfOk result (λ a. EndsCheck a.status) }
     ensures failed { OnReadFault result (ReadFailed (S.state shelf.old) (S.state shelf.new) name.now) }
     ensures quiet { UnlessReadFault result (SameFaults (S.state shelf.old) (S.state shelf.new)) }
@@ -136,8 +135,8 @@ fn answer_to_file<S: Shelf>(
 }
 
 /// The answer to the bytes of a witness.
-fn witness_answer(alloc: Global, shape: Shape, file: &[u8]) -> Result<Answer, AllocError>
-    ensures due { IfOk result (λ a. IsWitnessAnswer shape file.now (answer_of a)) }
+fn witness_answer(alloc: Global, shape: &Shape, file: &[u8]) -> Result<Answer, AllocError>
+    ensures due { IfOk result (λ a. IsWitnessAnswer shape.now file.now (answer_of a)) }
     ensures kind { IfOk result (λ a. EndsCheck a.status) }
 {
     match read_witness(alloc, shape, file) {

@@ -1,17 +1,16 @@
 //! Whether values satisfy tables.
 
 ghost use Rattle.table_text.specs.Limits.{max_level, max_log_values};
-ghost use Rattle.m3_tool.specs.Limits.{max_rows};
+ghost use Rattle.table_shape.specs.Limits.{max_rows};
 ghost use Rattle.std.specs.Prelude.{◌≡◌, ◌≤◌, ◌<◌, ◌^◌, IfNone, IfSome, IsSome, length, map};
-ghost use Rattle.m3_tool.specs.Value.{value};
+ghost use Rattle.table_shape.specs.Value.{value};
 ghost use Rattle.tower_laws.specs.Lists.{product_all, sum_all};
-ghost use Rattle.m3_tool.specs.Shape.{TableFits};
-ghost use Rattle.m3_tool.specs.Filling.{values_at};
+ghost use Rattle.table_shape.specs.Shape.{TableFits};
+ghost use Rattle.table_shape.specs.Filling.{values_at};
 ghost use Rattle.m3_tool.specs.Judging.{IsZeroAtIndices, IsFirstInRow, FindsFirst, FindsFirstInTable, IsVerdict};
 
-use crate::shape::{ColumnShape, ConstraintShape, ShapeExpr, TableShape};
-use crate::size::ceil_log;
-use crate::store::Store;
+use column_store::Store;
+use table_shape::{ColumnShape, ConstraintShape, ShapeExpr, TableShape, ceil_log};
 use tower_field::{B128, Tower, by_level, lift};
 
 /// A constraint whose value at a row and an index isn't 0.

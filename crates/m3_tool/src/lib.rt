@@ -6,13 +6,8 @@ mod check;
 pub mod judge;
 pub mod limits;
 mod lines;
-pub mod resolve;
 mod running;
-pub mod shape;
-pub mod size;
 mod status;
-pub mod store;
-pub mod witness;
 mod words;
 
 pub use running::run;

@@ -2,15 +2,15 @@
 
 ghost use Rattle.std.specs.Prelude.{◌≡◌, ◌++◌, ◌<◌, IfOk, OnOk, codes, false};
 ghost use Rattle.std.specs.Fmt.{decimal, digit_glyph};
+ghost use Rattle.m3_tool.specs.Judging.{seen};
 ghost use Rattle.m3_tool.specs.Lines.{hex, place_name, shape_fault_line, shape_kind_name, text_fault_line, text_kind_name, too_large_line, too_long_line, violated, violation_line, witness_fault_line, witness_kind_name};
 
 use crate::judge::Violation;
-use crate::resolve::{ShapeFault, ShapeKind};
-use crate::shape::{ConstraintShape, TableShape};
-use crate::witness::{WitnessFault, WitnessKind, WitnessPlace};
 use std::alloc::{AllocError, Global};
+use table_shape::{ConstraintShape, ShapeFault, ShapeKind, TableShape};
 use table_text::{TextFault, TextKind};
 use tower_field::Tower;
+use witness_reader::{WitnessFault, WitnessKind, WitnessPlace};
 
 /// The digit of a number below 16.
 fn hex_digit(n: u8) -> u8
@@ -79,7 +79,7 @@ pub fn violation_line(
     constraint: &ConstraintShape,
     violation: Violation,
 ) -> Result<Vec<u8>, AllocError>
-    ensures { IfOk result (λ line. line.items ≡ violation_line table.now constraint.now violation) }
+    ensures { IfOk result (λ line. line.items ≡ violation_line table.now constraint.now (seen violation)) }
 {
     let mut line = violated(alloc, table, constraint)?;
     push(&mut line, b", row ")?;

@@ -1,6 +1,6 @@
 use Rattle.std.proofs.Common.{refl}
-use Rattle.m3_tool.specs.Value.{value}
-use Rattle.m3_tool.specs.Filling.{values_at}
+use Rattle.table_shape.specs.Value.{value}
+use Rattle.table_shape.specs.Filling.{values_at}
 use Rattle.m3_tool.proofs.Products.{products_begin, products_next, products_done}
 use Rattle.m3_tool.proofs.judge.+values.Goals as goal
 

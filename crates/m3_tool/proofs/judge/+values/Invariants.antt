@@ -1,8 +1,8 @@
 use Rattle.std.proofs.Common.{◌≡◌, drop, map, bit_xor}
 use Rattle.tower_laws.specs.Tower.{mul}
-use Rattle.m3_tool.specs.Value.{value}
+use Rattle.table_shape.specs.Value.{value}
 use Rattle.tower_laws.specs.Lists.{sum_all, product_all}
-use Rattle.m3_tool.specs.Filling.{values_at}
+use Rattle.table_shape.specs.Filling.{values_at}
 use Rattle.m3_tool.proofs.judge.+values.Given as goal
 
 abbrev pub invariant-sum_in-loop-part : goal.invariant-sum_in-loop-part

@@ -1,4 +1,4 @@
-use Rattle.m3_tool.specs.Satisfies.{IsZeroOnRows}
+use Rattle.table_shape.specs.Satisfies.{IsZeroOnRows}
 use Rattle.m3_tool.proofs.judge.first_in_rows.Given as goal
 
 abbrev pub invariant-loop-row : goal.invariant-loop-row

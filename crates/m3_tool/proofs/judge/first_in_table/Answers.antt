@@ -1,6 +1,7 @@
 use Rattle.std.proofs.Common.{refl, arith}
 use Rattle.std.proofs.lemmas.Option.{slice_get_read}
-use Rattle.m3_tool.proofs.Searching.{AreZero-more, ConstraintsFit-get}
+use Rattle.m3_tool.proofs.Searching.{AreZero-more}
+use Rattle.table_shape.proofs.Fits.{ConstraintsFit-get}
 use Rattle.m3_tool.proofs.judge.first_in_table.Goals as goal
 
 pub first_at_level-requires-clause-log_values : goal.first_at_level-requires-clause-log_values

@@ -1,4 +1,4 @@
-use Rattle.m3_tool.specs.Satisfies.{AreZero}
+use Rattle.table_shape.specs.Satisfies.{AreZero}
 use Rattle.m3_tool.proofs.judge.first_in_table.Given as goal
 
 abbrev pub invariant-loop-constraint_number : goal.invariant-loop-constraint_number

@@ -1,6 +1,7 @@
 use Rattle.std.proofs.Common.{◌∙◌, ◌<◌, refl, arith}
 use Rattle.std.proofs.lemmas.Option.{slice_get_read, slice_get_within}
-use Rattle.m3_tool.proofs.Searching.{TablesAreZero-more, TablesFit-get, found_in_table}
+use Rattle.m3_tool.proofs.Searching.{TablesAreZero-more, found_in_table}
+use Rattle.table_shape.proofs.Fits.{TablesFit-get}
 use Rattle.m3_tool.proofs.judge.judge.Goals as goal
 
 pub first_in_table-requires-clause-fits : goal.first_in_table-requires-clause-fits

@@ -1,4 +1,4 @@
-use Rattle.m3_tool.specs.Satisfies.{TablesAreZero}
+use Rattle.table_shape.specs.Satisfies.{TablesAreZero}
 use Rattle.m3_tool.proofs.judge.judge.Given as goal
 
 abbrev pub invariant-loop-number : goal.invariant-loop-number

@@ -1,0 +1,4 @@
+pub mod ByteDigits
+pub mod ColumnValues
+pub mod Filled
+pub mod Padding

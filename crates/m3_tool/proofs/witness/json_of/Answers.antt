@@ -1,6 +1,0 @@
-use Rattle.serde_json.specs.View.{view}
-use Rattle.m3_tool.proofs.Members.{json_is}
-use Rattle.m3_tool.proofs.witness.json_of.Goals as goal
-
-pub returns-in-Ok-from_str : goal.returns-in-Ok-from_str
-returns-in-Ok-from_str c = json_is c.args.file.now c.in-Ok.text.now (view c.in-Ok-from_str.json) c.in-Ok.ensures.cases.0 c.in-Ok.ensures.cases.1 c.in-Ok-from_str.ensures.ok

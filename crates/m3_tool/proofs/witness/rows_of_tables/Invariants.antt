@@ -1,7 +1,0 @@
-use Rattle.std.proofs.Common.{◌≡◌, drop}
-use Rattle.serde_json.specs.View.{members_view}
-use Rattle.m3_tool.proofs.ReadingSteps.{with_front, rows_from}
-use Rattle.m3_tool.proofs.witness.rows_of_tables.Given as goal
-
-abbrev pub invariant-loop-t : goal.invariant-loop-t
-invariant-loop-t l = with_front l.all (rows_from l.t (drop l.t l.tables) (members_view l.whole.entries)) ≡ rows_from 0 l.tables (members_view l.whole.entries)

@@ -1,8 +1,0 @@
--- Steps of which the first that fails ends the whole.
--- Source: docs/ARCHITECTURE.md, "Within m3_tool".
-use Rattle.std.specs.Prelude.{Result, Ok, Err}
-
-infixl 10 ◌>>=◌
-abbrev pub ◌>>=◌ : {A B E : Type 0} → Result A E → (A → Result B E) → Result B E
-(Ok x) >>= f = f x
-(Err e) >>= f = Err e

@@ -1,0 +1,10 @@
+pub mod AndThen
+pub mod Limits
+pub mod Size
+pub mod Value
+pub mod Shape
+pub mod ShapeGives
+pub mod ShapeMeaning
+pub mod Names
+pub mod Filling
+pub mod Satisfies

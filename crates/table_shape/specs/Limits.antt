@@ -1,0 +1,27 @@
+-- The limits of shapes and of the columns' values.
+-- Source: docs/LANGUAGE.md, "What a file means"; docs/FORMATS.md, "Limits".
+use Rattle.std.specs.Prelude.{ℕ}
+
+-- the most tables
+abbrev pub max_tables : ℕ
+max_tables = 64
+
+-- the most columns of a table
+abbrev pub max_columns : ℕ
+max_columns = 256
+
+-- the most constraints of a table
+abbrev pub max_constraints : ℕ
+max_constraints = 256
+
+-- the greatest degree of a constraint
+abbrev pub max_degree : ℕ
+max_degree = 8
+
+-- the most rows that a table may have
+abbrev pub max_rows : ℕ
+max_rows = 1048576
+
+-- all columns take at most 2 ^ max_size_log bits
+abbrev pub max_size_log : ℕ
+max_size_log = 24

@@ -1,0 +1,22 @@
+//! The shape of tables: declarations with numbers in place of names, and their size.
+#![tactic(auto)]
+
+mod copying;
+mod fault;
+mod limits;
+mod no_memory;
+mod resolving;
+mod shape;
+mod size;
+#[cfg(test)]
+mod tests;
+
+pub use fault::{ShapeFault, ShapeKind, ShapeStop};
+pub use limits::{MAX_COLUMNS, MAX_CONSTRAINTS, MAX_DEGREE, MAX_ROWS, MAX_SIZE_LOG, MAX_TABLES};
+pub use no_memory::NoMemory;
+pub use resolving::{resolve, shaped_where_meant};
+pub use shape::{
+    ColumnShape, ColumnShapes, ConstraintShape, ConstraintShapes, Shape, ShapeExpr, ShapeExprs,
+    TableShape, TableShapes,
+};
+pub use size::{ceil_log, ceil_log_is_least, size_log};

@@ -1,0 +1,19 @@
+//! The limits of shapes and of the columns' values.
+
+/// The most tables.
+pub const MAX_TABLES: usize = 64;
+
+/// The most columns of a table.
+pub const MAX_COLUMNS: usize = 256;
+
+/// The most constraints of a table.
+pub const MAX_CONSTRAINTS: usize = 256;
+
+/// The greatest degree of a constraint.
+pub const MAX_DEGREE: u32 = 8;
+
+/// The most rows of a table.
+pub const MAX_ROWS: u32 = 1_048_576;
+
+/// All columns take at most `2 ^ MAX_SIZE_LOG` bits.
+pub const MAX_SIZE_LOG: u32 = 24;

@@ -1,0 +1,4 @@
+pub mod ReadingSteps
+pub mod Members
+pub mod KeptWitness
+pub mod GivenWitness
