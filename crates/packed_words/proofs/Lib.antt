@@ -1,0 +1,4 @@
+pub mod Sevens
+pub mod Exchanges
+pub mod Places
+pub mod InPlace

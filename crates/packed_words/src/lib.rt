@@ -1,0 +1,16 @@
+//! Words of 128 bits, each taken as several elements at once, and products and sums of many
+//! elements.
+
+#![tactic(auto)]
+
+mod element;
+mod multiples;
+mod no_memory;
+mod transpose;
+
+pub use multiples::Multiples;
+pub use no_memory::NoMemory;
+pub use transpose::transpose128;
+
+#[cfg(test)]
+mod tests;
