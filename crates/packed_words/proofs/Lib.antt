@@ -2,3 +2,5 @@ pub mod Sevens
 pub mod Exchanges
 pub mod Places
 pub mod InPlace
+pub mod ByteSums
+pub mod Filling

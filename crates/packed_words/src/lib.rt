@@ -3,11 +3,13 @@
 
 #![tactic(auto)]
 
+mod bit_sums;
 mod element;
 mod multiples;
 mod no_memory;
 mod transpose;
 
+pub use bit_sums::Buckets;
 pub use multiples::Multiples;
 pub use no_memory::NoMemory;
 pub use transpose::transpose128;
