@@ -17,7 +17,7 @@ use Rattle.cube_laws.proofs.Positions.{sum_to-more}
 use Rattle.packed_words.specs.Bytes.{bucket, byte_of, is_byte}
 use Rattle.packed_words.proofs.ByteSums.{is_byte_same, is_byte_other, upper_half, both_halves, nothing_plus}
 
-eq_cases : (a b : ℕ) → (a ≡ b) ⊎ (a ≢ b)
+pub eq_cases : (a b : ℕ) → (a ≡ b) ⊎ (a ≢ b)
 eq_cases a b = elim (cases_lt a b) [
   | inl l ↦ inr (λ e. omega arith)
   | inr g ↦ elim (cases_lt b a) [ inl l ↦ inr (λ e. omega arith) | inr h ↦ inl (omega arith) ]

@@ -4,3 +4,5 @@ pub mod Places
 pub mod InPlace
 pub mod ByteSums
 pub mod Filling
+pub mod Levels
+pub mod Packed

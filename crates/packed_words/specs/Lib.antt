@@ -1,3 +1,4 @@
 pub mod Exchange
 pub mod Multiples
 pub mod Bytes
+pub mod Packing

@@ -5,11 +5,13 @@
 
 mod bit_sums;
 mod element;
+mod lanes;
 mod multiples;
 mod no_memory;
 mod transpose;
 
 pub use bit_sums::Buckets;
+pub use lanes::Lanes;
 pub use multiples::Multiples;
 pub use no_memory::NoMemory;
 pub use transpose::transpose128;

@@ -1,8 +1,11 @@
 //! Values from outside, and each call once.
 
-use crate::{Buckets, Multiples, transpose128};
+ghost use Rattle.std.specs.Prelude.{◌<◌, ◌≤◌};
+
+use crate::{Buckets, Lanes, Multiples, transpose128};
+use std::process::Abort;
 use std::test::Fail;
-use tower_field::{B128, Tower};
+use tower_field::{B1, B2, B4, B8, B16, B32, B64, B128, Tower};
 
 #[test]
 fn rows_become_columns(rt: HostRuntime) {
@@ -68,4 +71,85 @@ fn sums_of_bits(rt: HostRuntime) -> Result<(), Fail> {
     );
     assert_eq!(rt; buckets.dot(&[g], &[]).number(), 0);
     Ok(())
+}
+
+/// Zero but for lane 0, which is 1, and for the last lane.
+fn two_set<F: Tower, const W: usize>(last: usize, n: u128) -> Lanes<F, W>
+    requires some_word { 0 < W }
+    requires not_too_many { W ≤ 65536 }
+{
+    let mut lanes = Lanes::zero();
+    for (i, n) in [(0, 1), (last, n)] {
+        if let Some(element) = F::from_number(n) {
+            if i < lanes.count() {
+                lanes.set(i, element);
+            }
+        }
+    }
+    lanes
+}
+
+fn at<F: Tower, const W: usize>(lanes: &Lanes<F, W>, i: usize) -> Option<u128> {
+    if i < lanes.count() {
+        Some(lanes.get(i).number())
+    } else {
+        None
+    }
+}
+
+/// The lanes 0 and 1 and the last two, and that there are no more.
+fn ends<F: Tower, const W: usize>(
+    rt: &impl Abort,
+    lanes: &Lanes<F, W>,
+    last: usize,
+    want: [u128; 4],
+)
+    requires four_lanes { 3 ≤ last }
+{
+    assert_eq!(rt; at(lanes, 0), Some(want[0]));
+    assert_eq!(rt; at(lanes, 1), Some(want[1]));
+    assert_eq!(rt; at(lanes, last - 1), Some(want[2]));
+    assert_eq!(rt; at(lanes, last), Some(want[3]));
+    assert_eq!(rt; lanes.count().checked_sub(1), Some(last));
+}
+
+/// At one level, by its greatest element and the square of that.
+fn lanes_of<F: Tower, const W: usize>(rt: &impl Abort, last: usize, greatest: u128, square: u128)
+    requires some_word { 0 < W }
+    requires not_too_many { W ≤ 65536 }
+    requires four_lanes { 3 ≤ last }
+{
+    let sum = two_set::<F, W>(last, greatest).add(two_set(last, 1));
+    ends(rt, &sum, last, [0, 0, 0, greatest ^ 1]);
+    let product = two_set::<F, W>(last, greatest).mul(two_set(last, greatest));
+    ends(rt, &product, last, [1, 0, 0, square]);
+    if let Some(factor) = F::from_number(greatest) {
+        let scaled = two_set::<F, W>(last, greatest).scale(factor);
+        ends(rt, &scaled, last, [greatest, 0, 0, square]);
+        let table = two_set::<F, W>(last, greatest);
+        if table.count() % 2 == 0 {
+            let folded = table.fold(factor);
+            assert_eq!(rt; at(&folded, 0), Some(greatest ^ 1));
+            assert_eq!(rt; at(&folded, last / 2), Some(square));
+            assert_eq!(rt; at(&folded, last), Some(0));
+        }
+    }
+}
+
+#[test]
+fn lanes_at_each_level(rt: HostRuntime) {
+    lanes_of::<B1, 1>(&rt, 127, 1, 1);
+    lanes_of::<B2, 1>(&rt, 63, 0x3, 0x2);
+    lanes_of::<B4, 1>(&rt, 31, 0xf, 0xc);
+    lanes_of::<B8, 1>(&rt, 15, 0xff, 0x70);
+    lanes_of::<B8, 1024>(&rt, 16383, 0xff, 0x70);
+    lanes_of::<B16, 1>(&rt, 7, 0xffff, 0x5700);
+    lanes_of::<B32, 1>(&rt, 3, 0xffff_ffff, 0xa557_0000);
+    lanes_of::<B64, 2>(&rt, 3, 0xffff_ffff_ffff_ffff, 0x6da5_a557_0000_0000);
+    lanes_of::<B128, 1024>(
+        &rt,
+        1023,
+        u128::MAX,
+        0xc63a_6da5_6da5_a557_0000_0000_0000_0000,
+    );
 }
