@@ -8,12 +8,14 @@ mod element;
 mod lanes;
 mod multiples;
 mod no_memory;
+mod product;
 mod transpose;
 
 pub use bit_sums::Buckets;
 pub use lanes::Lanes;
 pub use multiples::Multiples;
 pub use no_memory::NoMemory;
+pub use product::mul128;
 pub use transpose::transpose128;
 
 #[cfg(test)]

@@ -2,7 +2,7 @@
 
 ghost use Rattle.std.specs.Prelude.{◌<◌, ◌≤◌};
 
-use crate::{Buckets, Lanes, Multiples, transpose128};
+use crate::{Buckets, Lanes, Multiples, mul128, transpose128};
 use std::process::Abort;
 use std::test::Fail;
 use tower_field::{B1, B2, B4, B8, B16, B32, B64, B128, Tower};
@@ -32,6 +32,7 @@ fn multiples_of_one_element(rt: HostRuntime) -> Result<(), Fail> {
     let multiples = Multiples::new(rt.alloc(), g)?;
     // The square of the last generator of level 7 is 2^96 + 1.
     assert_eq!(rt; multiples.times(g).number(), (1 << 96) + 1);
+    assert_eq!(rt; mul128(g, g).number(), (1 << 96) + 1);
     assert_eq!(rt; multiples.times(B128::ZERO).number(), 0);
     let mut values = [B128::ONE, g];
     multiples.scale(&mut values);
