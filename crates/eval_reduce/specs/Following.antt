@@ -1,0 +1,33 @@
+-- A prover of a merge goes along with its walk, whatever values are claimed.
+-- Source: docs/REDUCTIONS.md, "Merge".
+use Rattle.std.specs.Prelude.{◌≡◌, ◌≤◌, ℕ, ◌^◌, List, [], length, Option, None, Some}
+use Rattle.cube_laws.specs.SumClaim.{AllLong}
+use Rattle.sumcheck.specs.declared.summand.Pair.{Pair}
+use Rattle.sumcheck.specs.Machine.{Filling}
+use Rattle.sumcheck.specs.Pair.{pair_form}
+use Rattle.sumcheck.specs.Proving.{Proving, Goes}
+use Rattle.sumcheck.specs.Rounds.{sum_claim, with_claim}
+use Rattle.sumcheck.specs.Summing.{adding, closed}
+use Rattle.eval_reduce.specs.declared.merge_prover.MergeProver.{MergeProver}
+use Rattle.eval_reduce.specs.Merge.{Merge, waiting, opening, summed, points, joined_sum}
+
+-- before its first message a prover holds the column and the claims' points; their values may differ
+pub record Ready (p : MergeProver) (F : Filling) (t k n : ℕ) (ps : List (List ℕ)) : Type 0 where
+  pub few : p.vars ≤ 32
+  pub all : p.vars ≡ n
+  pub at : points p.claims.items ≡ ps
+  pub placed : AllLong n ps
+  pub held : p.column.items ≡ F t k
+  pub whole : length (F t k) ≡ 2 ^ n
+
+abbrev pub FollowsSum : MergeProver → Option (Proving Pair) → Filling → Merge → Type 0
+FollowsSum p o F (waiting n) = ⊥
+FollowsSum p None F (opening t k n cs) = Ready p F t k n (points cs)
+FollowsSum p None F (summed (adding j r)) = ((p.mu ≡ Some j.mu) × (with_claim 0 r ≡ sum_claim 2 j.vars [] 0)) × Ready p F j.table j.column j.vars (points j.claims)
+FollowsSum p None F (summed (closed c)) = Unit {0}
+FollowsSum p (Some q) F (opening t k n cs) = ⊥
+FollowsSum p (Some q) F (summed (adding j r)) = Goes pair_form q (joined_sum F j) r
+FollowsSum p (Some q) F (summed (closed c)) = Unit {0}
+
+abbrev pub Follows : MergeProver → Filling → Merge → Type 0
+Follows p F s = FollowsSum p p.sum F s
