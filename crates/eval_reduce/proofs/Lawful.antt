@@ -101,7 +101,7 @@ abbrev sum_keeps : KeepsTruth merge_sum
 sum_keeps = keeps_truth merge_sum sum_lawful
 
 at_message : (F : Filling) (s : Merge) (c : CheckKind) (n : ℕ) (es : List Entry) → merge_entries s ≡ Message c n ∷ es → AtMessage merge s n es F
-at_message F (waiting m) c n es e = absurd (cc)
+at_message F (waiting m o) c n es e = absurd (cc)
 at_message F (opening t k m cs) c n es e = absurd (cc)
 at_message F (summed (closed x)) c n es e = absurd (cc)
 at_message F (summed (adding t r)) c n es e =
@@ -109,7 +109,7 @@ at_message F (summed (adding t r)) c n es e =
     record { next = h.next; fits = h.fits; sound = h.sound; size = h.size; passes = h.passes; stays = h.stays }
 
 at_draw : (F : Filling) (s : Merge) (k : DrawKind) (n : ℕ) (es : List Entry) → merge_entries s ≡ Draw k n ∷ es → AtDraw merge s n es F
-at_draw F (waiting m) k n es e = absurd (cc)
+at_draw F (waiting m o) k n es e = absurd (cc)
 at_draw F (opening t j m cs) k n es e = same_draw merge _ F MergeDraw k _ n _ es e (at_opening F t j m cs)
 at_draw F (summed (closed x)) k n es e = absurd (cc)
 at_draw F (summed (adding t r)) k n es e =
@@ -117,7 +117,7 @@ at_draw F (summed (adding t r)) k n es e =
     record { next = h.next; fits = h.fits; counted = h.counted; stays = h.stays }
 
 round_claimed : (s : Merge) → RoundIsClaimed (merge_entries s) (merge_round s)
-round_claimed (waiting n) = refl
+round_claimed (waiting n o) = refl
 round_claimed (opening t k n cs) = refl
 round_claimed (summed (adding t r)) = sum_keeps.round t r
 round_claimed (summed (closed c)) = refl

@@ -1,5 +1,6 @@
 -- Steps of the prover.
 use Rattle.std.proofs.Common.{◌≡◌, ℕ, zero, suc, ◌+◌, ◌-◌, ◌^◌, ◌<◌, ◌≤◌, Option, Some, None, List, [], ◌∷◌, ◌++◌, map, length, drop, get_or, bit_xor, refl, sym, ◌∙◌, ap, subst, arith}
+use Rattle.std.specs.List.{AllByRecursion}
 use Rattle.tower_laws.specs.Tower.{mul}
 use Rattle.tower_laws.specs.Lists.{sums}
 use Rattle.cube_laws.specs.Extension.{weights, fold_low}
@@ -19,7 +20,7 @@ use Rattle.sumcheck.proofs.RowSteps.{opened_at}
 use Rattle.sumcheck.proofs.Following.{goes_last, goes_first, draw_sets, draw_left}
 use Rattle.eval_reduce.specs.Merge.{Merge, waiting, opening, summed, Joined, joined_sum, merge_sum, points, merge_entries, merge_draw, merge_message, merge_honest}
 use Rattle.eval_reduce.specs.declared.merge_prover.MergeProver.{MergeProver}
-use Rattle.eval_reduce.specs.Following.{Ready, FollowsSum}
+use Rattle.eval_reduce.specs.Following.{Ready, Follows, FollowsSum, IsNew}
 
 pub tabulate_sums : (m : ℕ) (xs ys : List ℕ) → length ys ≡ length xs → tabulate (length ys) (λ j. bit_xor (get_or xs j 0) (mul m (get_or ys j 0))) ≡ sums xs (map (mul m) ys)
 tabulate_sums m [] [] l = refl
@@ -89,7 +90,7 @@ ready_facts p x F t k n at m h = record {
 }
 
 pub start_facts : (p : MergeProver) (F : Filling) (s : Merge) → FollowsSum p None F s → AwaitsSome (merge_entries s) → Facts p
-start_facts p F (waiting n) h w = absurd h
+start_facts p F (waiting n o) h w = absurd h
 start_facts p F (opening t k n cs) h w = absurd w
 start_facts p F (summed (adding j r)) h w = ready_facts p j.mu F j.table j.column j.vars (points j.claims) h.0.0 h.1
 start_facts p F (summed (closed c)) h w = absurd w
@@ -112,7 +113,7 @@ same_draw x y o a b = let e : Some x ≡ Some y = sym a ∙ b in cc
 
 pub start_follows : (p next : MergeProver) (mu : ℕ) (q : Proving Pair) → p.mu ≡ Some mu → q ≡ begun p.vars p.claims.items mu p.column.items → (F : Filling) (s : Merge)
     → FollowsSum p None F s → AwaitsSome (merge_entries s) → FollowsSum next (Some q) F s
-start_follows p next mu q m e F (waiting n) h w = absurd h
+start_follows p next mu q m e F (waiting n o) h w = absurd h
 start_follows p next mu q m e F (opening t k n cs) h w = absurd w
 start_follows p next mu q m e F (summed (adding j r)) h w =
     subst (λ q. Goes pair_form q (joined_sum F j) r) (sym e)
@@ -121,7 +122,7 @@ start_follows p next mu q m e F (summed (closed c)) h w = absurd w
 
 -- ---- a draw
 pub draw_begins : (p next : MergeProver) (x : ℕ) → next ≡ record p { mu = Some x } → (F : Filling) (s : Merge) → FollowsSum p None F s → AwaitsDraw (merge_entries s) → FollowsSum next None F (merge_draw s x)
-draw_begins p next x e F (waiting n) h w = absurd h
+draw_begins p next x e F (waiting n o) h w = absurd h
 draw_begins p next x e F (opening t k n cs) h w =
     subst (λ q. FollowsSum q None F (merge_draw (opening t k n cs) x)) (sym e)
     ((refl, refl), record { few = h.few; all = h.all; at = h.at; placed = h.placed; held = h.held; whole = h.whole })
@@ -132,20 +133,20 @@ draw_begins p next x e F (summed (closed c)) h w = absurd w
 
 pub draw_goes_on : (now next : MergeProver) (p q : Proving Pair) (x : ℕ) → q ≡ record p { left = p.left - 1; lists = map (fold_low x) p.lists }
     → (F : Filling) (s : Merge) → FollowsSum now (Some p) F s → AwaitsDraw (merge_entries s) → FollowsSum next (Some q) F (merge_draw s x)
-draw_goes_on now next p q x e F (waiting n) h w = absurd h
+draw_goes_on now next p q x e F (waiting n o) h w = absurd h
 draw_goes_on now next p q x e F (opening t k n cs) h w = absurd h
 draw_goes_on now next p q x e F (summed (adding j r)) h w = draw_sets merge_sum pair_form p q x e F j r h w
 draw_goes_on now next p q x e F (summed (closed c)) h w = absurd w
 
 pub draw_possible : (now : MergeProver) (p : Proving Pair) (F : Filling) (s : Merge) → FollowsSum now (Some p) F s → AwaitsDraw (merge_entries s) → 0 < p.left
-draw_possible now p F (waiting n) h w = absurd h
+draw_possible now p F (waiting n o) h w = absurd h
 draw_possible now p F (opening t k n cs) h w = absurd h
 draw_possible now p F (summed (adding j r)) h w = draw_left merge_sum pair_form p F j r h w
 draw_possible now p F (summed (closed c)) h w = absurd w
 
 -- ---- a message
 pub two_lists : (now : MergeProver) (p : Proving Pair) (F : Filling) (s : Merge) → FollowsSum now (Some p) F s → AwaitsSome (merge_entries s) → length p.lists ≡ 2
-two_lists now p F (waiting n) h w = absurd h
+two_lists now p F (waiting n o) h w = absurd h
 two_lists now p F (opening t k n cs) h w = absurd h
 two_lists now p F (summed (adding j r)) h w = ap length h.lists
 two_lists now p F (summed (closed c)) h w = absurd w
@@ -157,16 +158,34 @@ Gives p q old new = (F : Filling) (j : Joined) (r : Rounds) → Goes pair_form p
 
 pub message_values : (now : MergeProver) (p q : Proving Pair) (old new : List ℕ) → Gives p q old new
     → (F : Filling) (s : Merge) → FollowsSum now (Some p) F s → AwaitsSome (merge_entries s) → new ≡ old ++ merge_honest F s
-message_values now p q old new g F (waiting n) h w = absurd h
+message_values now p q old new g F (waiting n o) h w = absurd h
 message_values now p q old new g F (opening t k n cs) h w = absurd h
 message_values now p q old new g F (summed (adding j r)) h w = (g F j r h w).0
 message_values now p q old new g F (summed (closed c)) h w = absurd w
 
 pub message_follows : (now next : MergeProver) (p q : Proving Pair) (old new : List ℕ) → Gives p q old new
     → (F : Filling) (s : Merge) → FollowsSum now (Some p) F s → AwaitsSome (merge_entries s) → FollowsSum next (Some q) F (merge_message s (merge_honest F s))
-message_follows now next p q old new g F (waiting n) h w = absurd h
+message_follows now next p q old new g F (waiting n o) h w = absurd h
 message_follows now next p q old new g F (opening t k n cs) h w = absurd h
 message_follows now next p q old new g F (summed (closed c)) h w = absurd w
 message_follows now next p q old new g F (summed (adding j (sum_claim d zero z c))) h w = tt
 message_follows now next p q old new g F (summed (adding j (sum_claim d (suc n) z c))) h w = (g F j (sum_claim d (suc n) z c) h w).1
 message_follows now next p q old new g F (summed (adding j (round_claim d n z v))) h w = absurd w
+
+-- ---- claims that are entered
+pub no_longer : (n m : ℕ) (cs : List ColumnClaim) → m ≡ n → AllLong n (points cs) → AllByRecursion (λ claim. length claim.point ≤ m) cs
+no_longer n m [] e h = tt
+no_longer n m (c ∷ cs) e h = let a = h.0 in (omega arith, no_longer n m cs e h.1)
+
+pub entered : (p next : MergeProver) (ps : List (List ℕ)) → IsNew p.vars p → next.vars ≡ p.vars → next.column.items ≡ p.column.items → next.sum ≡ None → points next.claims.items ≡ ps → AllLong p.vars ps
+    → (F : Filling) (t k : ℕ) (cs : List ColumnClaim) → points cs ≡ ps → F t k ≡ p.column.items → Follows next F (opening t k p.vars cs)
+entered p next ps new v l s a long F t k cs e f =
+    subst (λ o. FollowsSum next o F (opening t k p.vars cs)) (sym s)
+    (record {
+      few = subst (λ n. n ≤ 32) (sym v) new.few;
+      all = v;
+      at = a ∙ sym e;
+      placed = subst (λ ps. AllLong p.vars ps) (sym e) long;
+      held = l ∙ sym f;
+      whole = ap length f ∙ new.whole;
+    })

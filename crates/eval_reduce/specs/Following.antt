@@ -11,6 +11,14 @@ use Rattle.sumcheck.specs.Summing.{adding, closed}
 use Rattle.eval_reduce.specs.declared.merge_prover.MergeProver.{MergeProver}
 use Rattle.eval_reduce.specs.Merge.{Merge, waiting, opening, summed, points, joined_sum}
 
+-- a prover for a column of n variables, before the claims are stated
+pub record IsNew (n : ℕ) (p : MergeProver) : Type 0 where
+  pub vars : p.vars ≡ n
+  pub few : p.vars ≤ 32
+  pub whole : length p.column.items ≡ 2 ^ p.vars
+  pub room : p.room.vars ≡ p.vars
+  pub none : p.sum ≡ None
+
 -- before its first message a prover holds the column and the claims' points; their values may differ
 pub record Ready (p : MergeProver) (F : Filling) (t k n : ℕ) (ps : List (List ℕ)) : Type 0 where
   pub few : p.vars ≤ 32
@@ -21,7 +29,7 @@ pub record Ready (p : MergeProver) (F : Filling) (t k n : ℕ) (ps : List (List 
   pub whole : length (F t k) ≡ 2 ^ n
 
 abbrev pub FollowsSum : MergeProver → Option (Proving Pair) → Filling → Merge → Type 0
-FollowsSum p o F (waiting n) = ⊥
+FollowsSum p q F (waiting n o) = ⊥
 FollowsSum p None F (opening t k n cs) = Ready p F t k n (points cs)
 FollowsSum p None F (summed (adding j r)) = ((p.mu ≡ Some j.mu) × (with_claim 0 r ≡ sum_claim 2 j.vars [] 0)) × Ready p F j.table j.column j.vars (points j.claims)
 FollowsSum p None F (summed (closed c)) = Unit {0}

@@ -18,6 +18,7 @@ use Rattle.sumcheck.specs.Column.{ColumnFits, ColumnHolds}
 use Rattle.sumcheck.specs.Machine.{Filling, Machine}
 use Rattle.sumcheck.specs.Rounds.{Rounds, sum_claim, rounds, with_claim}
 use Rattle.sumcheck.specs.Summing.{Summing, Summed, adding, closed, summed_entries, summed_refusal, summed_message, summed_draw, summed_pending, summed_round, SummedFits, SummedHolds, summed_honest}
+use Rattle.eval_reduce.specs.Room.{Space}
 use Rattle.eval_reduce.specs.declared.merge_walk.Stage.{Stage}
 use Rattle.eval_reduce.specs.declared.merge_walk.Stage.TheVariants.{Waiting, Opening, Adding}
 
@@ -67,8 +68,8 @@ merge_sum = record {
 
 -- ---- the walk's states
 pub data Merge : Type 0 where
-  -- before the claims are stated
-  waiting : (vars : ℕ) → Merge
+  -- before the claims are stated, with room for that many
+  waiting : (vars room : ℕ) → Merge
   -- the claims that are to be merged
   opening : (table column vars : ℕ) → List ColumnClaim → Merge
   -- their sum, and then the one claim
@@ -83,47 +84,47 @@ abbrev pub join : ℕ → ℕ → ℕ → List ColumnClaim → ℕ → Summed Jo
 join t k n cs mu = adding (record { table = t; column = k; vars = n; claims = cs; mu = mu }) (sum_claim 2 n [] (horner (values cs) mu))
 
 abbrev pub merge_entries : Merge → List Entry
-merge_entries (waiting n) = []
+merge_entries (waiting n m) = []
 merge_entries (opening t k n cs) = Draw MergeDraw (length cs - 1) ∷ (rounds MergeRound 2 n ++ Message MergeFinal 1 ∷ [])
 merge_entries (summed s) = summed_entries merge_sum s
 
 abbrev pub merge_refusal : Merge → List ℕ → Option Refused
-merge_refusal (waiting n) v = None
+merge_refusal (waiting n m) v = None
 merge_refusal (opening t k n cs) v = None
 merge_refusal (summed s) v = summed_refusal merge_sum s v
 
 abbrev pub merge_message : Merge → List ℕ → Merge
-merge_message (waiting n) v = waiting n
+merge_message (waiting n m) v = waiting n m
 merge_message (opening t k n cs) v = opening t k n cs
 merge_message (summed s) v = summed (summed_message merge_sum s v)
 
 abbrev pub merge_draw : Merge → ℕ → Merge
-merge_draw (waiting n) r = waiting n
+merge_draw (waiting n m) r = waiting n m
 merge_draw (opening t k n cs) r = summed (join t k n cs r)
 merge_draw (summed s) r = summed (summed_draw s r)
 
 abbrev pub merge_pending : Merge → List Claim
-merge_pending (waiting n) = []
+merge_pending (waiting n m) = []
 merge_pending (opening t k n cs) = map column_value cs
 merge_pending (summed s) = summed_pending merge_sum s
 
 abbrev pub merge_round : Merge → Option ℕ
-merge_round (waiting n) = None
+merge_round (waiting n m) = None
 merge_round (opening t k n cs) = None
 merge_round (summed s) = summed_round merge_sum s
 
 abbrev pub MergeFits : Filling → Merge → Type 0
-MergeFits F (waiting n) = Unit {0}
+MergeFits F (waiting n m) = Unit {0}
 MergeFits F (opening t k n cs) = (length (F t k) ≡ 2 ^ n) × AllOn t k n cs
 MergeFits F (summed s) = SummedFits merge_sum F s
 
 abbrev pub MergeHolds : Filling → Merge → Type 0
-MergeHolds F (waiting n) = Unit {0}
+MergeHolds F (waiting n m) = Unit {0}
 MergeHolds F (opening t k n cs) = AllByRecursion (ColumnHolds F) cs
 MergeHolds F (summed s) = SummedHolds merge_sum F s
 
 abbrev pub merge_honest : Filling → Merge → List ℕ
-merge_honest F (waiting n) = []
+merge_honest F (waiting n m) = []
 merge_honest F (opening t k n cs) = []
 merge_honest F (summed s) = summed_honest merge_sum F s
 
@@ -143,31 +144,37 @@ merge = record {
 -- ---- what is stated
 -- a walk of n variables takes these claims: two or more on that column, at points of n coordinates
 abbrev pub Takes : ℕ → ℕ → List ColumnClaim → Merge → Type 0
-Takes t k cs (waiting n) = ((2 ≤ length cs) × (length cs < 2 ^ 32)) × AllOn t k n cs
+Takes t k cs (waiting n m) = ((2 ≤ length cs) × (length cs < 2 ^ 32)) × AllOn t k n cs
 Takes t k cs (opening t' k' n ds) = ⊥
 Takes t k cs (summed s) = ⊥
 
+-- how many claims can be copied
+abbrev pub room_of : Merge → ℕ
+room_of (waiting n m) = m
+room_of (opening t k n cs) = 0
+room_of (summed s) = 0
+
 abbrev pub state_claims : ℕ → ℕ → List ColumnClaim → Merge → Merge
-state_claims t k cs (waiting n) = opening t k n cs
+state_claims t k cs (waiting n m) = opening t k n cs
 state_claims t k cs (opening t' k' n ds) = opening t' k' n ds
 state_claims t k cs (summed s) = summed s
 
 -- the walk has come to its end
 abbrev pub IsDone : Merge → Type 0
-IsDone (waiting n) = ⊥
+IsDone (waiting n m) = ⊥
 IsDone (opening t k n cs) = ⊥
 IsDone (summed (adding t r)) = ⊥
 IsDone (summed (closed claim)) = Unit {0}
 
 -- ---- the walk's fields
-abbrev pub merge_of : Stage → Joined → Rounds → Option ColumnClaim → Merge
-merge_of Waiting t r None = waiting t.vars
-merge_of Opening t r None = opening t.table t.column t.vars t.claims
-merge_of Adding t r None = summed (adding t r)
-merge_of g t r (Some claim) = summed (closed claim)
+abbrev pub merge_of : Stage → Joined → Rounds → Option ColumnClaim → Space → Merge
+merge_of Waiting t r None m = waiting t.vars m.count
+merge_of Opening t r None m = opening t.table t.column t.vars t.claims
+merge_of Adding t r None m = summed (adding t r)
+merge_of g t r (Some claim) m = summed (closed claim)
 
 -- what is known in each stage
-abbrev pub StageFits : Stage → Joined → Rounds → Option ColumnClaim → Type 0
-StageFits Waiting t r o = (o ≡ None) × (with_claim 0 r ≡ sum_claim 2 t.vars [] 0)
-StageFits Opening t r o = (o ≡ None) × ((with_claim 0 r ≡ sum_claim 2 t.vars [] 0) × ((1 ≤ length t.claims) × (length t.claims < 2 ^ 32)))
-StageFits Adding t r o = Unit {0}
+abbrev pub StageFits : Stage → Joined → Rounds → Option ColumnClaim → Space → Type 0
+StageFits Waiting t r o m = (o ≡ None) × ((with_claim 0 r ≡ sum_claim 2 t.vars [] 0) × (m.vars ≡ t.vars))
+StageFits Opening t r o m = (o ≡ None) × ((with_claim 0 r ≡ sum_claim 2 t.vars [] 0) × ((1 ≤ length t.claims) × (length t.claims < 2 ^ 32)))
+StageFits Adding t r o m = Unit {0}

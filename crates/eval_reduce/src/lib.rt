@@ -8,6 +8,7 @@ mod laws;
 mod merge_prover;
 mod merge_walk;
 mod no_memory;
+mod room;
 
 pub use joined::Joined;
 pub use laws::merges_keep_truth;

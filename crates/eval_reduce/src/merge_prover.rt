@@ -13,11 +13,12 @@ ghost use Rattle.sumcheck.specs.Pair.{pair_form};
 ghost use Rattle.sumcheck.specs.Proving.{Accompanies, Goes};
 ghost use Rattle.sumcheck.specs.Rounds.{Rounds};
 ghost use Rattle.sumcheck.specs.Summing.{adding, summed_entries, summed_honest, summed_message};
-ghost use Rattle.eval_reduce.specs.Following.{Follows};
+ghost use Rattle.eval_reduce.specs.Following.{Follows, IsNew};
 ghost use Rattle.eval_reduce.specs.Merge.{Joined, Merge, merge_entries, merge_sum, joined_sum, opening, points};
 
 use crate::merge_walk::MergeWalk;
 use crate::no_memory::NoMemory;
+use crate::room::Room;
 use cube_mle::eq_table;
 use std::alloc::Global;
 use sumcheck::{ColumnClaim, Honest, Pair, SumProver, Tables128};
@@ -28,6 +29,7 @@ use tower_field::{B128, Tower, Values};
 pub struct MergeProver {
     alloc: Global,
     vars: u32,
+    room: Room,
     claims: Vec<ColumnClaim>,
     mu: Option<B128>,
     column: Vec<B128>,
@@ -126,14 +128,24 @@ fn give(sum: &mut SumProver<Pair>, out: &mut Vec<B128>) -> Result<(), sumcheck::
 }
 
 impl MergeProver {
-    /// The prover for a column of `2 ^ vars` values.
-    pub fn begin(alloc: Global, vars: u32, column: &[B128]) -> Result<MergeProver, NoMemory>
-        ensures { IfOk result (λ prover. (prover.vars ≡ vars) × ((prover.column.items ≡ column.now) × (prover.sum ≡ None))) }
+    /// The prover for a column of `2 ^ vars` values. `claims` is how many claims `enter` can take.
+    pub fn begin(
+        alloc: Global,
+        vars: u32,
+        claims: u32,
+        column: &[B128],
+    ) -> Result<MergeProver, NoMemory>
+        requires few { vars ≤ 32 }
+        requires whole { length column.now ≡ 2 ^ vars }
+        ensures new { IfOk result (λ prover. IsNew vars prover) }
+        ensures room { IfOk result (λ prover. prover.room.count ≡ claims) }
+        ensures column { IfOk result (λ prover. prover.column.items ≡ column.now) }
     {
         let column = Vec::from_slice(alloc, column)?;
         Ok(MergeProver {
             alloc,
             vars,
+            room: Room::begin(alloc, vars, claims)?,
             claims: Vec::new(alloc),
             mu: None,
             column,
@@ -142,11 +154,20 @@ impl MergeProver {
     }
 
     /// Takes the points of the claims. What values are claimed makes no difference.
-    pub fn enter(&mut self, claims: Vec<ColumnClaim>)
-        requires few { self.old.vars ≤ 32 }
-        requires whole { length self.old.column.items ≡ 2 ^ self.old.vars }
+    pub fn enter(&mut self, claims: &[ColumnClaim])
+        requires new { IsNew self.old.vars self.old }
+        requires placed { AllLong self.old.vars (points claims.now) }
+        requires room { length claims.now ≤ self.old.room.count }
+        ensures { (F : Filling) (t k : ℕ) (cs : List Claim) → points cs ≡ points claims.now → F t k ≡ self.old.column.items → Follows self.new F (opening t k self.old.vars cs) }
+    {
+        let copies = self.room.fill(claims);
+        self.claims = copies;
+    }
+
+    /// The same of claims in their own memory.
+    pub fn enter_owned(&mut self, claims: Vec<ColumnClaim>)
+        requires new { IsNew self.old.vars self.old }
         requires placed { AllLong self.old.vars (points claims.items) }
-        requires new { self.old.sum ≡ None }
         ensures { (F : Filling) (t k : ℕ) (cs : List Claim) → points cs ≡ points claims.items → F t k ≡ self.old.column.items → Follows self.new F (opening t k self.old.vars cs) }
     {
         self.claims = claims;

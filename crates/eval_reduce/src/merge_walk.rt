@@ -2,11 +2,12 @@
 
 ghost use Rattle.std.specs.Prelude.{◌≡◌, ℕ, ◌<◌, ◌≤◌, length, IfOk};
 ghost use Rattle.sumcheck.specs.Summing.{closed};
-ghost use Rattle.eval_reduce.specs.Merge.{merge, waiting, summed, state_claims, IsDone, Takes};
+ghost use Rattle.eval_reduce.specs.Merge.{merge, waiting, summed, room_of, state_claims, IsDone, Takes};
 
 use crate::batch::value_of_batch;
 use crate::joined::Joined;
 use crate::no_memory::NoMemory;
+use crate::room::Room;
 use poly_forms::DrawKind;
 use std::alloc::Global;
 use std::marker::Model;
@@ -29,6 +30,7 @@ pub struct MergeWalk {
     joined: Joined,
     rounds: SumRounds,
     closed: Option<ColumnClaim>,
+    room: Room,
 }
 
 impl Model for MergeWalk {
@@ -36,16 +38,17 @@ impl Model for MergeWalk {
 
     ghost Value = { Merge };
 
-    ghost view = { λ w. merge_of w.stage w.joined w.rounds w.closed };
+    ghost view = { λ w. merge_of w.stage w.joined w.rounds w.closed w.room };
 
-    ghost invariant = { λ w. StageFits w.stage w.joined w.rounds w.closed };
+    ghost invariant = { λ w. StageFits w.stage w.joined w.rounds w.closed w.room };
 }
 
 impl MergeWalk {
-    /// A walk for a column of `vars` variables.
-    pub fn begin(alloc: Global, vars: u32) -> Result<MergeWalk, NoMemory>
+    /// A walk for a column of `vars` variables. `claims` is how many claims `enter` can take;
+    /// `enter_owned` takes any number.
+    pub fn begin(alloc: Global, vars: u32, claims: u32) -> Result<MergeWalk, NoMemory>
         requires { vars ≤ 32 }
-        ensures { IfOk result (λ walk. walk ≡ waiting vars) }
+        ensures { IfOk result (λ walk. walk ≡ waiting vars claims) }
     {
         Ok(MergeWalk {
             stage: Stage::Waiting,
@@ -58,11 +61,22 @@ impl MergeWalk {
             },
             rounds: SumRounds::begin(alloc, vars, 2)?,
             closed: None,
+            room: Room::begin(alloc, vars, claims)?,
         })
     }
 
     /// States the claims, two or more on one column.
-    pub fn enter(&mut self, claims: Vec<ColumnClaim>)
+    pub fn enter(&mut self, claims: &[ColumnClaim])
+        requires claims { (t : ℕ) × (k : ℕ) × Takes t k claims.now self.old }
+        requires room { length claims.now ≤ room_of self.old }
+        ensures { (t k : ℕ) → Takes t k claims.now self.old → self.new ≡ state_claims t k claims.now self.old }
+    {
+        let copies = self.room.fill(claims);
+        self.enter_owned(copies);
+    }
+
+    /// States claims in their own memory, two or more on one column.
+    pub fn enter_owned(&mut self, claims: Vec<ColumnClaim>)
         requires { (t : ℕ) × (k : ℕ) × Takes t k claims.items self.old }
         ensures { (t k : ℕ) → Takes t k claims.items self.old → self.new ≡ state_claims t k claims.items self.old }
     {
@@ -103,6 +117,7 @@ impl MergeWalk {
             joined: _,
             rounds: _,
             closed,
+            room: _,
         } = self;
         match closed {
             Some(claim) => claim,

@@ -7,4 +7,4 @@ use Rattle.eval_reduce.proofs.merge_walk.MergeWalkSteps.draw.Goals as goal
 pub bind-requires : goal.bind-requires
 bind-requires c =
     let v = c.self-inside.view_is in
-    subst DrawIsDue (sym (ap (λ (w : Inside). w.rounds) v)) (bind_due _ _ _ _ _ c.self.view_is (sym (ap (λ (w : Inside). w.stage) v) ∙ c.in-Adding.is) c.requires)
+    subst DrawIsDue (sym (ap (λ (w : Inside). w.rounds) v)) (bind_due _ _ _ _ _ _ c.self.view_is (sym (ap (λ (w : Inside). w.stage) v) ∙ c.in-Adding.is) c.requires)
