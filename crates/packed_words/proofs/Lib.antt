@@ -6,3 +6,4 @@ pub mod ByteSums
 pub mod Filling
 pub mod Levels
 pub mod Packed
+pub mod ByBytes

@@ -27,7 +27,7 @@ entry_at r p b h =
     let m = mod-mul-add p 256 b h in
     ap (entry r) e ∙ ap (λ k. mul r (k * 2 ^ (8 * ((p * 256 + b) / 256)))) m ∙ ap (λ k. mul r (b * 2 ^ (8 * k))) d
 
-xor_apart : (n b a : ℕ) → a < 2 ^ n → bit_xor a (b * 2 ^ n) ≡ b * 2 ^ n + a
+pub xor_apart : (n b a : ℕ) → a < 2 ^ n → bit_xor a (b * 2 ^ n) ≡ b * 2 ^ n + a
 xor_apart n b a h =
     let x = xor_block n b 0 0 a (pow_pos n) h in
     let c = xor_comm a (b * 2 ^ n) in
@@ -121,3 +121,14 @@ place_begun r p items e =
     let z : 256 * p ≡ 256 * p + 0 = omega arith in
     let none : 0 * 2 ^ (8 * p) ≡ 0 = omega arith in
     entries_more r (256 * p) 0 items e (sym (ap (entry r) z ∙ entry_at r p 0 (lit< tt) ∙ ap (mul r) none ∙ field_comm r 0 ∙ field_zero r))
+
+-- how many products there are before one is added, and that there is room for it
+pub few_before : (r p j k : ℕ) (items : List ℕ) → p < 16 → j < 8 → k < 1 * 2 ^ j % 2 ^ 64 → items ≡ entries r (256 * p + (2 ^ j + k)) → length items < 4096
+few_before r p j k items hp h l e =
+    let len : length items ≡ 256 * p + (2 ^ j + k) = ap length e ∙ length-entries r (256 * p + (2 ^ j + k)) in
+    let two : 2 ^ suc j ≤ 2 ^ 8 = pow-le-pow_right {n = 2} (omega arith) h in
+    let below : k < 2 ^ j = let one = one_shl j 64 (omega arith) in omega arith in
+    omega (arith, pow-suc 2 j)
+
+pub few_places : (r p : ℕ) (items : List ℕ) → p < 16 → items ≡ entries r (256 * p) → length items < 4096
+few_places r p items h e = let len : length items ≡ 256 * p = ap length e ∙ length-entries r (256 * p) in omega arith

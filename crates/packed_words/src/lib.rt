@@ -4,6 +4,7 @@
 #![tactic(auto)]
 
 mod bit_sums;
+mod by_byte;
 mod element;
 mod lanes;
 mod multiples;
@@ -12,6 +13,7 @@ mod product;
 mod transpose;
 
 pub use bit_sums::Buckets;
+pub use by_byte::times_byte;
 pub use lanes::Lanes;
 pub use multiples::Multiples;
 pub use no_memory::NoMemory;

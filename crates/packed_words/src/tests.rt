@@ -2,7 +2,7 @@
 
 ghost use Rattle.std.specs.Prelude.{◌<◌, ◌≤◌};
 
-use crate::{Buckets, Lanes, Multiples, mul128, transpose128};
+use crate::{Buckets, Lanes, Multiples, mul128, times_byte, transpose128};
 use std::process::Abort;
 use std::test::Fail;
 use tower_field::{B1, B2, B4, B8, B16, B32, B64, B128, Tower};
@@ -29,7 +29,9 @@ fn rows_become_columns(rt: HostRuntime) {
 #[test]
 fn multiples_of_one_element(rt: HostRuntime) -> Result<(), Fail> {
     let g = B128::join(0, 1);
-    let multiples = Multiples::new(rt.alloc(), g)?;
+    let mut multiples = Multiples::new(rt.alloc(), B128::ONE)?;
+    assert_eq!(rt; multiples.times(g).number(), 1 << 64);
+    multiples.set(g);
     // The square of the last generator of level 7 is 2^96 + 1.
     assert_eq!(rt; multiples.times(g).number(), (1 << 96) + 1);
     assert_eq!(rt; mul128(g, g).number(), (1 << 96) + 1);
@@ -44,6 +46,18 @@ fn multiples_of_one_element(rt: HostRuntime) -> Result<(), Fail> {
     assert_eq!(rt; table[0].number(), (1 << 96) + 1);
     assert_eq!(rt; table[1].number(), 1 << 64);
     Ok(())
+}
+
+#[test]
+fn a_byte_times_an_element(rt: HostRuntime) {
+    let two = B8::join(2, 0);
+    // 2 · 2 is 3, and 128 · 16 is 8 · (4 · 16 + 1), for the byte at each place.
+    assert_eq!(rt; times_byte(B128::join(1, 2), two).number(), 3 << 64 | 2);
+    assert_eq!(rt;
+        times_byte(B128::join(1 << 63, 1 << 63), B8::join(0, 1)).number(),
+        0xe800000000000000_e800000000000000
+    );
+    assert_eq!(rt; times_byte(B128::join(5, 7), B8::ZERO).number(), 0);
 }
 
 #[test]

@@ -11,11 +11,11 @@ overflow_add-place c = let h = index_small c.number-number.result c.loop-place.p
 
 pub index-requires : goal.index-requires
 index-requires c =
-    let h = index_below c.self.inside.factor c.number-number.result c.loop-place.place c.self.inside.products.items c.loop-place-test.true c.self.invariant in
+    let h = index_below c.self.inside.factor c.number-number.result c.loop-place.place c.self.inside.products.items c.loop-place-test.true c.self.invariant.made in
     let l = c.self.inside.products.ok.0 in omega arith
 
 pub loop-place-preserved : goal.loop-place-preserved
-loop-place-preserved c = c.add-sum.ensures ∙ byte_step c.self.inside.factor c.number-number.result c.loop-place.place c.loop-place.sum c.index.result.now c.self.inside.products.items c.loop-place-test.true c.self.invariant c.index.ensures c.loop-place.invariant
+loop-place-preserved c = c.add-sum.ensures ∙ byte_step c.self.inside.factor c.number-number.result c.loop-place.place c.loop-place.sum c.index.result.now c.self.inside.products.items c.loop-place-test.true c.self.invariant.made c.index.ensures c.loop-place.invariant
 
 pub returns : goal.returns
 returns c =
