@@ -1,6 +1,6 @@
 //! The values of a form at the positions of tables.
 
-ghost use Rattle.std.specs.Prelude.{◌≡◌, ◌*◌, ◌^◌, ◌<◌, ◌≤◌, length, get_or, bit_xor, vec_capacity, map};
+ghost use Rattle.std.specs.Prelude.{◌≡◌, ◌*◌, ◌^◌, ◌<◌, ◌≤◌, length, get_or, bit_xor, vec_capacity, map, IfSome};
 ghost use Rattle.cube_laws.specs.Extension.{fold_low};
 ghost use Rattle.tower_laws.specs.Tower.{mul};
 ghost use Rattle.cube_laws.specs.Form.{value};
@@ -10,14 +10,18 @@ ghost use Rattle.sumcheck.specs.Proving.{row_at};
 
 use crate::summand::Summand;
 use cube_mle::fold_low;
+use packed_words::{Multiples, times_byte};
 use std::alloc::Global;
-use tower_field::{B128, Tower, Values};
+use tower_field::{B8, B128, Tower, Values};
 
-/// The point of the number `n`.
-fn point(n: u8) -> B128
+/// From as many pairs on, a fold by a table of the challenge's multiples is quicker.
+pub const MANY: usize = 512;
+
+/// The point of the number `n`, a byte.
+fn point(n: u8) -> B8
     ensures { result ≡ n }
 {
-    match B128::from_number(n as u128) {
+    match B8::from_number(n as u128) {
         Some(element) => element,
         None => unreachable!(),
     }
@@ -39,7 +43,7 @@ fn cell_at(low: B128, high: B128, k: u8) -> B128
     match k {
         0 => low,
         1 => high,
-        _ => low + point(k) * (low + high),
+        _ => low + times_byte(low + high, point(k)),
     }
 }
 
@@ -120,35 +124,70 @@ pub fn sum_positions<S: Summand>(
     }
 }
 
+/// Makes the multiples of `r`, where tables of that many pairs are folded by them.
+pub fn prepare(multiples: &mut Option<Multiples>, half: usize, r: B128)
+    ensures { MANY ≤ half → IfSome multiples.new (λ m. m ≡ r) }
+{
+    if half >= MANY {
+        if let Some(multiples) = multiples {
+            multiples.set(r);
+        }
+    }
+}
+
 /// Sets the lowest variable of a table to `r`, in its memory.
-fn fold_table(alloc: Global, table: &mut Values, half: usize, r: B128)
+fn fold_table(
+    alloc: Global,
+    table: &mut Values,
+    half: usize,
+    r: B128,
+    multiples: &Option<Multiples>,
+)
     requires some { 0 < half }
     requires long { length table.old ≡ 2 * half }
+    requires prepared { MANY ≤ half → IfSome multiples.now (λ m. m ≡ r) }
     ensures { table.new ≡ fold_low r table.old }
 {
     let mut cells = std::mem::replace(table, Values::new(alloc)).into_vec();
-    fold_low(&mut cells, r);
+    match multiples {
+        Some(multiples) if half >= MANY => multiples.fold_low(&mut cells),
+        _ => fold_low(&mut cells, r),
+    }
     *table = Values::from_vec(cells);
 }
 
 /// Sets the lowest variable of all tables to `r`.
-fn fold_slice(alloc: Global, tables: &mut [Values], half: usize, r: B128)
+fn fold_slice(
+    alloc: Global,
+    tables: &mut [Values],
+    half: usize,
+    r: B128,
+    multiples: &Option<Multiples>,
+)
     requires some { 0 < half }
     requires long { AllLong (2 * half) tables.old }
+    requires prepared { MANY ≤ half → IfSome multiples.now (λ m. m ≡ r) }
     ensures { tables.new ≡ map (fold_low r) tables.old }
 {
     for i in 0..tables.len() {
-        fold_table(alloc, &mut tables[i], half, r);
+        fold_table(alloc, &mut tables[i], half, r, multiples);
     }
 }
 
 /// Sets the lowest variable of all tables to `r`.
-pub fn fold_tables(alloc: Global, tables: &mut Vec<Values>, half: usize, r: B128)
+pub fn fold_tables(
+    alloc: Global,
+    tables: &mut Vec<Values>,
+    half: usize,
+    r: B128,
+    multiples: &Option<Multiples>,
+)
     requires some { 0 < half }
     requires long { AllLong (2 * half) tables.old.items }
+    requires prepared { MANY ≤ half → IfSome multiples.now (λ m. m ≡ r) }
     ensures { tables.new.items ≡ map (fold_low r) tables.old.items }
 {
-    fold_slice(alloc, tables.as_mut_slice(), half, r);
+    fold_slice(alloc, tables.as_mut_slice(), half, r, multiples);
 }
 
 /// The first values of the tables.

@@ -7,9 +7,10 @@ ghost use Rattle.sumcheck.specs.Rounds.{true_round};
 ghost use Rattle.sumcheck.specs.Proving.{sum_of};
 
 use crate::no_memory::NoMemory;
-use crate::rows::{fill_firsts, fold_tables, sum_positions};
+use crate::rows::{MANY, fill_firsts, fold_tables, prepare, sum_positions};
 use crate::summand::Summand;
 use crate::tables128::Tables128;
+use packed_words::Multiples;
 use std::alloc::Global;
 use std::marker::Model;
 use tower_field::{B128, Tower, Values};
@@ -61,8 +62,19 @@ fn fill_when_set(left: u32, tables: &[Values], firsts: &mut Vec<B128>)
     }
 }
 
+/// Memory for the multiples of challenges, where there are tables of that many values to fold.
+fn room_for_multiples(alloc: Global, size: usize) -> Result<Option<Multiples>, NoMemory> {
+    if size < 2 * MANY {
+        return Ok(None);
+    }
+    match Multiples::new(alloc, B128::ZERO) {
+        Ok(multiples) => Ok(Some(multiples)),
+        Err(_) => Err(NoMemory),
+    }
+}
+
 /// A sum over a cube of a form of the extensions of tables, which are folded in place. Its memory is
-/// that of the tables and a value for each.
+/// that of the tables and a value for each, and 64 KiB for the multiples of a challenge.
 #[derive(Drop)]
 pub struct SumProver<S: Summand + Drop> {
     alloc: Global,
@@ -71,6 +83,7 @@ pub struct SumProver<S: Summand + Drop> {
     left: u32,
     tables: Vec<Values>,
     firsts: Vec<B128>,
+    multiples: Option<Multiples>,
 }
 
 impl<S: Summand + Drop> Model for SumProver<S> {
@@ -103,6 +116,7 @@ impl<S: Summand + Drop> SumProver<S> {
         let tables = tables.into_vec();
         let first = &tables[0];
         let left = exponent(first.as_slice().len());
+        let multiples = room_for_multiples(alloc, first.as_slice().len())?;
         let mut firsts = Vec::with_capacity(alloc, tables.len())?;
         fill_when_set(left, tables.as_slice(), &mut firsts);
         Ok(SumProver {
@@ -112,6 +126,7 @@ impl<S: Summand + Drop> SumProver<S> {
             left,
             tables,
             firsts,
+            multiples,
         })
     }
 
@@ -147,7 +162,8 @@ impl<S: Summand + Drop> SumProver<S> {
         ensures { self.new ≡ record self.old { left = self.old.left - 1; lists = map (fold_low r) self.old.lists } }
     {
         let half = power(self.left - 1);
-        fold_tables(self.alloc, &mut self.tables, half, r);
+        prepare(&mut self.multiples, half, r);
+        fold_tables(self.alloc, &mut self.tables, half, r, &self.multiples);
         self.left -= 1;
         fill_when_set(self.left, self.tables.as_slice(), &mut self.firsts);
     }

@@ -1,5 +1,5 @@
 use Rattle.cube_mle.proofs.Doubling.{Doubled}
-use Rattle.cube_mle.proofs.weights.double.Given as goal
+use Rattle.cube_mle.proofs.weights.double_many.Given as goal
 
 abbrev pub invariant-loop-i : goal.invariant-loop-i
 invariant-loop-i l = Doubled l.x l.i l.fn.table.items l.table.items
