@@ -12,7 +12,7 @@ mod move_prover;
 mod move_walk;
 mod moved;
 
-pub use meeting::step;
+pub use meeting::{meet, step};
 pub use move_prover::MoveProver;
 pub use move_walk::{MoveWalk, move_again};
 pub use moved::Moved;

@@ -1,6 +1,7 @@
 //! A walk against numbers from outside, and against its prover.
 
-use crate::{MoveWalk, move_again};
+use crate::{MoveProver, MoveWalk, meet, move_again};
+use cube_mle::mle_at;
 use std::alloc::Global;
 use sumcheck::{ColumnClaim, Next, NoMemory, Reduction, Steps, Stopping};
 use tower_field::{B128, Tower, Values};
@@ -58,5 +59,32 @@ fn a_false_claim_stops(rt: HostRuntime) -> Result<(), NoMemory> {
     assert_eq!(rt; (second.left.number(), second.right.number()), (0xeb26, 1));
     assert!(rt; walk.round_claim().is_none());
     assert_eq!(rt; walk.pending_count(), 1);
+    Ok(())
+}
+
+/// A claim on a column of four values, off by `error`, side by side with its prover.
+fn moved(alloc: Global, error: u64) -> Result<(u32, bool), NoMemory> {
+    let point = [element(0x77), element(0x1001)];
+    let column = [0xd3, 1, 2, 4].map(element);
+    let Ok(value) = mle_at(alloc, &column, &point) else {
+        return Err(NoMemory);
+    };
+    let cells = Values::from_vec(Vec::from_slice(alloc, &column)?);
+    let mut prover = MoveProver::begin(alloc, &point, cells)?;
+    let claim = ColumnClaim {
+        table: 3,
+        column: 5,
+        point: Values::from_vec(Vec::from_slice(alloc, &point)?),
+        value: value + element(error),
+    };
+    let mut walk = MoveWalk::begin(alloc, 2, claim)?;
+    let mut values = Vec::new(alloc);
+    meet(&mut walk, &mut prover, 20, &mut values)
+}
+
+#[test]
+fn walk_against_prover(rt: HostRuntime) -> Result<(), NoMemory> {
+    assert_eq!(rt; moved(rt.alloc(), 0)?, (5, true));
+    assert_eq!(rt; moved(rt.alloc(), 1)?, (0, false));
     Ok(())
 }
