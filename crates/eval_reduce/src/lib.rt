@@ -15,3 +15,6 @@ pub use laws::merges_keep_truth;
 pub use merge_prover::MergeProver;
 pub use merge_walk::MergeWalk;
 pub use no_memory::NoMemory;
+
+#[cfg(test)]
+mod tests;
