@@ -1,13 +1,13 @@
 -- The machine reads what each tree spells, and has then what the tree means.
-use Rattle.std.proofs.Common.{◌≡◌, ℕ, zero, suc, ◌≤◌, List, [], ◌∷◌, ◌++◌, Option, Some, None, refl, sym, ◌∙◌, ap, subst, append_assoc, arith}
+use Rattle.std.proofs.Common.{◌≡◌, ℕ, zero, suc, ◌≤◌, ◌^◌, List, [], ◌∷◌, ◌++◌, Option, Some, None, refl, sym, ◌∙◌, ap, subst, append_assoc, arith}
 use Rattle.std.proofs.lemmas.List.{append-nil}
 use Rattle.std.proofs.lemmas.Option.{none-some, same_Some}
 use Rattle.std.specs.Prelude.{map, option_map, option_and_then}
 use Rattle.std.specs.List.{flat_map}
 use Rattle.table_text.specs.Bytes.{close_paren, times_sign, plus_sign, semicolon, close_brace}
-use Rattle.table_text.specs.Lexing.{Token, name, mark}
-use Rattle.table_text.specs.Grammar.{Sum, first_term, plus, Product, first_factor, times, Atom, constant, column, parens, ItemTree, column_item, zero_item, TableTree, FileTree, sum_tokens, product_tokens, atom_tokens, atom_expr, terms, factors, sum_of, product_of, type_word, item_tokens, table_tokens, file_tokens, item_of, table_of}
-use Rattle.table_text.specs.Machine.{level_of, back_in, innermost, body_at, state_at, step, run, start}
+use Rattle.table_text.specs.Lexing.{Token, name, number, mark}
+use Rattle.table_text.specs.Grammar.{Sum, first_term, plus, Product, first_factor, times, Atom, constant, column, parens, ItemTree, one_value, several_values, column_item, zero_item, TableTree, FileTree, sum_tokens, product_tokens, atom_tokens, atom_expr, terms, factors, sum_of, product_of, type_word, item_tokens, table_tokens, file_tokens, item_of, table_of}
+use Rattle.table_text.specs.Machine.{level_of, log_values_of, back_in, innermost, body_at, state_at, step, run, start}
 use Rattle.table_text.specs.declared.expr.Expr.{Expr}
 use Rattle.table_text.specs.declared.decl.Item.{Item}
 use Rattle.table_text.specs.declared.decl.Item.TheVariants as item
@@ -120,17 +120,40 @@ type_step : (ds : List Decl) (t : List ℕ) (items : List Item) (w : List ℕ) (
     → step (table_at ds t items (its.ColumnType w)) (name (type_word level)) ≡ Some (table_at ds t items (its.ColumnEnd w level))
 type_step ds t items w level h = ap (λ r. option_map (λ b. state_at ds (stage.Table t b)) (option_map (λ l. body_at items (its.ColumnEnd w l)) r)) (level_of-type_word level h)
 
+log_values_of-power : (v : ℕ) → v ≤ 7 → log_values_of (2 ^ v) ≡ Some v
+log_values_of-power zero h = refl
+log_values_of-power (suc zero) h = refl
+log_values_of-power (suc (suc zero)) h = refl
+log_values_of-power (suc (suc (suc zero))) h = refl
+log_values_of-power (suc (suc (suc (suc zero)))) h = refl
+log_values_of-power (suc (suc (suc (suc (suc zero))))) h = refl
+log_values_of-power (suc (suc (suc (suc (suc (suc zero)))))) h = refl
+log_values_of-power (suc (suc (suc (suc (suc (suc (suc zero))))))) h = refl
+log_values_of-power (suc (suc (suc (suc (suc (suc (suc (suc n)))))))) h = absurd (omega arith)
+
+values_step : (ds : List Decl) (t : List ℕ) (items : List Item) (w : List ℕ) (level v : ℕ) → v ≤ 7
+    → step (table_at ds t items (its.ColumnValues w level)) (number (2 ^ v)) ≡ Some (table_at ds t items (its.ColumnLast w level v))
+values_step ds t items w level v h = ap (λ r. option_map (λ b. state_at ds (stage.Table t b)) (option_map (λ l. body_at items (its.ColumnLast w level l)) r)) (log_values_of-power v h)
+
 end_step : (ds : List Decl) (t : List ℕ) (items : List Item) (w : List ℕ) (s : Sum)
     → step (table_at ds t items (its.Operator w (formula [] (front_terms s) (last_factors s)))) (mark semicolon) ≡ Some (table_at ds t (items ++ item.Zero w (sum_of (terms s)) ∷ []) its.Start)
 end_step ds t items w s = ap (λ ts. Some (table_at ds t (items ++ item.Zero w (sum_of ts) ∷ []) its.Start)) (terms-parts s)
 
 item_read : (ds : List Decl) (t : List ℕ) (items : List Item) (i : ItemTree) → Leads (table_at ds t items its.Start) (item_tokens i) (table_at ds t (items ++ item_of i ∷ []) its.Start)
-item_read ds t items (column_item w level h) =
+item_read ds t items (column_item w (one_value level h)) =
     first _ (table_at ds t items its.ColumnName) _ _ _ refl
     (first _ (table_at ds t items (its.ColumnColon w)) _ _ _ refl
     (first _ (table_at ds t items (its.ColumnType w)) _ _ _ refl
     (first _ (table_at ds t items (its.ColumnEnd w level)) _ _ _ (type_step ds t items w level h)
     (one _ _ _ refl))))
+item_read ds t items (column_item w (several_values level v h k)) =
+    first _ (table_at ds t items its.ColumnName) _ _ _ refl
+    (first _ (table_at ds t items (its.ColumnColon w)) _ _ _ refl
+    (first _ (table_at ds t items (its.ColumnType w)) _ _ _ refl
+    (first _ (table_at ds t items (its.ColumnEnd w level)) _ _ _ (type_step ds t items w level h)
+    (first _ (table_at ds t items (its.ColumnValues w level)) _ _ _ refl
+    (first _ (table_at ds t items (its.ColumnLast w level v)) _ _ _ (values_step ds t items w level v k)
+    (one _ _ _ refl))))))
 item_read ds t items (zero_item w s) =
     first _ (table_at ds t items its.ZeroName) _ _ _ refl
     (first _ (table_at ds t items (its.ZeroColon w)) _ _ _ refl

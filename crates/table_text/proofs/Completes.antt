@@ -6,8 +6,8 @@ use Rattle.std.specs.Prelude.{codes}
 use Rattle.std.specs.List.{flat_map}
 use Rattle.table_text.specs.Bytes.{close_paren, colon, semicolon, open_brace, close_brace}
 use Rattle.table_text.specs.Lexing.{Token, name, reserved, number, mark}
-use Rattle.table_text.specs.Grammar.{Sum, first_term, Product, first_factor, constant, parens, ItemTree, column_item, zero_item, TableTree, FileTree, sum_tokens, product_tokens, type_word, item_tokens, table_tokens, file_tokens, Begins}
-use Rattle.table_text.proofs.Trees.{plus_tokens, times_tokens, with_product, with_atom, FrameTree, outer_tokens, Part, start, column_name, column_colon, column_type, column_end, zero_name, zero_colon, operand, operator, part_tokens, TablePart, file, table_name, table_brace, table, table_part_tokens, spelled, product_tokens-with_atom, sum_tokens-with_product}
+use Rattle.table_text.specs.Grammar.{Sum, first_term, Product, first_factor, constant, parens, ItemTree, one_value, several_values, column_item, zero_item, TableTree, FileTree, sum_tokens, product_tokens, type_word, item_tokens, table_tokens, file_tokens, Begins}
+use Rattle.table_text.proofs.Trees.{plus_tokens, times_tokens, with_product, with_atom, FrameTree, outer_tokens, Part, start, column_name, column_colon, column_type, column_end, column_values, column_last, zero_name, zero_colon, operand, operator, part_tokens, TablePart, file, table_name, table_brace, table, table_part_tokens, spelled, product_tokens-with_atom, sum_tokens-with_product}
 
 -- a sum that begins with these tokens
 pub record SumFrom (tokens : List Token) : Type 0 where
@@ -41,10 +41,12 @@ zero_from w tokens r = one_item (zero_item w r.tree) _ (r.more ++ mark semicolon
 
 pub complete_part : (part : Part) → ItemsFrom (part_tokens part)
 complete_part start = record { items = []; more = []; is = refl }
-complete_part column_name = one_item (column_item [] 0 (lit≤ tt)) _ (name [] ∷ mark colon ∷ name (type_word 0) ∷ mark semicolon ∷ []) refl
-complete_part (column_colon w) = one_item (column_item w 0 (lit≤ tt)) _ (mark colon ∷ name (type_word 0) ∷ mark semicolon ∷ []) refl
-complete_part (column_type w) = one_item (column_item w 0 (lit≤ tt)) _ (name (type_word 0) ∷ mark semicolon ∷ []) refl
-complete_part (column_end w level h) = one_item (column_item w level h) _ (mark semicolon ∷ []) refl
+complete_part column_name = one_item (column_item [] (one_value 0 (lit≤ tt))) _ (name [] ∷ mark colon ∷ name (type_word 0) ∷ mark semicolon ∷ []) refl
+complete_part (column_colon w) = one_item (column_item w (one_value 0 (lit≤ tt))) _ (mark colon ∷ name (type_word 0) ∷ mark semicolon ∷ []) refl
+complete_part (column_type w) = one_item (column_item w (one_value 0 (lit≤ tt))) _ (name (type_word 0) ∷ mark semicolon ∷ []) refl
+complete_part (column_end w level h) = one_item (column_item w (one_value level h)) _ (mark semicolon ∷ []) refl
+complete_part (column_values w level h) = one_item (column_item w (several_values level 0 h (lit≤ tt))) _ (number 1 ∷ mark semicolon ∷ []) refl
+complete_part (column_last w level v h k) = one_item (column_item w (several_values level v h k)) _ (mark semicolon ∷ []) refl
 complete_part zero_name = one_item (zero_item [] (first_term (first_factor (constant 0)))) _ (name [] ∷ mark colon ∷ number 0 ∷ mark semicolon ∷ []) refl
 complete_part (zero_colon w) = one_item (zero_item w (first_term (first_factor (constant 0)))) _ (mark colon ∷ number 0 ∷ mark semicolon ∷ []) refl
 complete_part (operand w o s p) = zero_from w _ (close_operand o s p)

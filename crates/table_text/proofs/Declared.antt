@@ -8,7 +8,7 @@ use Rattle.std.proofs.lemmas.Option.{slice_get-get_or}
 use Rattle.std.proofs.lemmas.List.Sums.{sum_by-append}
 use Rattle.table_text.specs.Bytes.{close_paren, times_sign, plus_sign, colon, semicolon, open_brace, close_brace}
 use Rattle.table_text.specs.Lexing.{Token, name, reserved, mark, spots}
-use Rattle.table_text.specs.Grammar.{Sum, first_term, plus, Product, first_factor, times, Atom, constant, column, parens, sum_tokens, product_tokens, atom_tokens, ItemTree, column_item, zero_item, item_tokens, item_of, TableTree, table_tokens, table_of, FileTree, file_tokens}
+use Rattle.table_text.specs.Grammar.{Sum, first_term, plus, Product, first_factor, times, Atom, constant, column, parens, sum_tokens, product_tokens, atom_tokens, ItemTree, one_value, several_values, column_item, zero_item, item_tokens, item_of, TableTree, table_tokens, table_of, FileTree, file_tokens}
 use Rattle.table_text.specs.Limits.{max_declarations}
 use Rattle.table_text.specs.Faults.{begins_declaration, IsTaken, AreTaken, IsTablesText}
 use Rattle.table_text.specs.Valid.{declarations}
@@ -37,7 +37,8 @@ mutual
   begun-atom (parens s) = begun-append (sum_tokens s) (mark close_paren ∷ []) ∙ omega (arith, begun-sum s)
 
 begun-item : (i : ItemTree) → begun (item_tokens i) ≡ 1
-begun-item (column_item w level h) = refl
+begun-item (column_item w (one_value level h)) = refl
+begun-item (column_item w (several_values level v h k)) = refl
 begun-item (zero_item w s) =
     let head : begun (reserved (codes "zero") ∷ name w ∷ mark colon ∷ sum_tokens s) ≡ 1 + begun (sum_tokens s) = begun-append (reserved (codes "zero") ∷ name w ∷ mark colon ∷ []) (sum_tokens s) in
     begun-append (reserved (codes "zero") ∷ name w ∷ mark colon ∷ sum_tokens s) (mark semicolon ∷ []) ∙ omega (arith, begun-sum s)

@@ -1,5 +1,5 @@
 -- Where the machine goes, the trees go, and they spell the token that it took.
-use Rattle.std.proofs.Common.{◌≡◌, ℕ, suc, ◌+◌, ◌-◌, ◌≤◌, ◌<◌, ◌⊎◌, inl, inr, Bool, true, false, cond, ◌&&◌, List, [], ◌∷◌, ◌++◌, length, Option, Some, None, refl, sym, ◌∙◌, ap, subst, append_assoc, length-append, arith}
+use Rattle.std.proofs.Common.{◌≡◌, ℕ, zero, suc, ◌+◌, ◌-◌, ◌^◌, ◌≤◌, ◌<◌, ◌⊎◌, inl, inr, Bool, true, false, cond, ◌&&◌, List, [], ◌∷◌, ◌++◌, length, Option, Some, None, refl, sym, ◌∙◌, ap, subst, append_assoc, length-append, arith}
 use Rattle.std.proofs.lemmas.List.{append-nil, map-append}
 use Rattle.std.proofs.lemmas.Grind.{flat_map-append}
 use Rattle.std.proofs.lemmas.Option.{cond_some, none-some, same_Some}
@@ -11,8 +11,8 @@ use Rattle.std.specs.Str.{bytes_eq}
 use Rattle.table_text.specs.Bytes.{open_paren, close_paren, times_sign, plus_sign, colon, semicolon, open_brace, close_brace}
 use Rattle.table_text.specs.Lexing.{Token, name, reserved, number, mark, wrong}
 use Rattle.table_text.specs.Faults.{is_mark_of}
-use Rattle.table_text.specs.Grammar.{Sum, Product, Atom, constant, column, parens, ItemTree, column_item, zero_item, TableTree, FileTree, product_tokens, atom_tokens, atom_expr, factors, sum_of, product_of, type_word, type_words, item_tokens, table_tokens, file_tokens, item_of, table_of}
-use Rattle.table_text.specs.Machine.{name_of, is_word, place_among, level_of, back_in, innermost, closed, body_at, body_step, operand_step, operator_step, stage_step, step, state_at, is_start}
+use Rattle.table_text.specs.Grammar.{Sum, Product, Atom, constant, column, parens, ItemTree, one_value, several_values, column_item, zero_item, TableTree, FileTree, product_tokens, atom_tokens, atom_expr, factors, sum_of, product_of, type_word, type_words, item_tokens, table_tokens, file_tokens, item_of, table_of}
+use Rattle.table_text.specs.Machine.{name_of, is_word, place_among, level_of, number_in, count_among, value_counts, log_values_of, back_in, innermost, closed, body_at, body_step, operand_step, operator_step, stage_step, step, state_at, is_start}
 use Rattle.table_text.specs.declared.formula.Formula.{Formula}
 use Rattle.table_text.specs.declared.expr.Expr.{Expr}
 use Rattle.table_text.specs.declared.decl.Item.TheVariants as item
@@ -23,7 +23,7 @@ use Rattle.table_text.specs.declared.state.Stage.TheVariants as stage
 use Rattle.table_text.specs.declared.body.Body.{Body}
 use Rattle.table_text.specs.declared.state.State.{State}
 use Rattle.table_text.proofs.Stacks.{split_last-append}
-use Rattle.table_text.proofs.Trees.{plus_tokens, times_tokens, plus_terms, times_factors, with_product, with_atom, FrameTree, frame_of, outer_tokens, outer_frames, Part, start, column_name, column_colon, column_type, column_end, zero_name, zero_colon, operand, operator, stage_of, part_tokens, items_tokens, TablePart, file, table_name, table_brace, table, table_stage, table_part_tokens, spelled, state_of, product_tokens-with_atom, sum_tokens-with_product, factors-with_atom, terms-with_product}
+use Rattle.table_text.proofs.Trees.{plus_tokens, times_tokens, plus_terms, times_factors, with_product, with_atom, FrameTree, frame_of, outer_tokens, outer_frames, Part, start, column_name, column_colon, column_type, column_end, column_values, column_last, zero_name, zero_colon, operand, operator, stage_of, part_tokens, items_tokens, TablePart, file, table_name, table_brace, table, table_stage, table_part_tokens, spelled, state_of, product_tokens-with_atom, sum_tokens-with_product, factors-with_atom, terms-with_product}
 
 -- ---- tokens from tests
 
@@ -68,6 +68,19 @@ named f (number n) y e = absurd (none-some y e)
 named f (mark b) y e = absurd (none-some y e)
 named f (wrong kind) y e = absurd (none-some y e)
 
+-- a number among tokens
+pub record Numbered {X : Type 0} (f : ℕ → Option X) (t : Token) (y : X) : Type 0 where
+  pub count : ℕ
+  pub token : t ≡ number count
+  pub is : f count ≡ Some y
+
+pub numbered : {X : Type 0} (f : ℕ → Option X) (t : Token) (y : X) → option_and_then f (number_in t) ≡ Some y → Numbered f t y
+numbered f (name w) y e = absurd (none-some y e)
+numbered f (reserved w) y e = absurd (none-some y e)
+numbered f (number n) y e = record { count = n; token = refl; is = e }
+numbered f (mark b) y e = absurd (none-some y e)
+numbered f (wrong kind) y e = absurd (none-some y e)
+
 pub record Mapped {X Y : Type 0} (f : X → Y) (o : Option X) (y : Y) : Type 0 where
   pub value : X
   pub from : o ≡ Some value
@@ -110,6 +123,43 @@ pub level_of-is : (w : List ℕ) (level : ℕ) → level_of w ≡ Some level →
 level_of-is w level e =
     let r = place_among-is 0 type_words w level e in
     record { fits = let lt : level < 0 + length type_words = r.1 in omega arith; word = r.2 ∙ ap type_word (let z : level - 0 ≡ level = omega arith in z) }
+
+-- ---- numbers of values
+
+-- a number that stands at a place among numbers
+abbrev pub count_at : ℕ → List ℕ → ℕ
+count_at n counts = slice_index_or counts n 0
+
+pub count_among-is : (n : ℕ) (counts : List ℕ) (k v : ℕ) → count_among n counts k ≡ Some v → (n ≤ v) × (v < n + length counts) × (k ≡ count_at (v - n) counts)
+count_among-is n [] k v e = absurd (none-some v e)
+count_among-is n (count ∷ counts) k v e =
+    elim (chosen (k == count) (Some n) (count_among (n + 1) counts k) (Some v) e) [
+      | inl h ↦ let l : n ≡ v = same_Some _ _ h.1 in (omega arith, omega arith, eqb-true k count h.0 ∙ ap (λ i. count_at i (count ∷ counts)) (let z : 0 ≡ v - n = omega arith in z))
+      | inr h ↦ let r : (n + 1 ≤ v) × (v < n + 1 + length counts) × (k ≡ count_at (v - (n + 1)) counts) = count_among-is (n + 1) counts k v h.1 in
+          let le : n + 1 ≤ v = r.0 in let lt : v < n + 1 + length counts = r.1 in
+          (omega arith, omega arith, r.2 ∙ ap (λ i. count_at i (count ∷ counts)) (let z : suc (v - (n + 1)) ≡ v - n = omega arith in z))
+    ]
+
+counts_are_powers : (v : ℕ) → v ≤ 7 → count_at v value_counts ≡ 2 ^ v
+counts_are_powers zero h = refl
+counts_are_powers (suc zero) h = refl
+counts_are_powers (suc (suc zero)) h = refl
+counts_are_powers (suc (suc (suc zero))) h = refl
+counts_are_powers (suc (suc (suc (suc zero)))) h = refl
+counts_are_powers (suc (suc (suc (suc (suc zero))))) h = refl
+counts_are_powers (suc (suc (suc (suc (suc (suc zero)))))) h = refl
+counts_are_powers (suc (suc (suc (suc (suc (suc (suc zero))))))) h = refl
+counts_are_powers (suc (suc (suc (suc (suc (suc (suc (suc n)))))))) h = absurd (omega arith)
+
+pub record IsPower (k v : ℕ) : Type 0 where
+  pub fits : v ≤ 7
+  pub power : k ≡ 2 ^ v
+
+pub log_values_of-is : (k v : ℕ) → log_values_of k ≡ Some v → IsPower k v
+log_values_of-is k v e =
+    let r = count_among-is 0 value_counts k v e in
+    let fits : v ≤ 7 = let lt : v < 0 + length value_counts = r.1 in omega arith in
+    record { fits = fits; power = r.2 ∙ ap (λ i. count_at i value_counts) (let z : v - 0 ≡ v = omega arith in z) ∙ counts_are_powers v fits }
 
 -- ---- items
 
@@ -258,8 +308,26 @@ type_read items w t b e =
     stays items (column_type w) (column_end w m.value l.fits) t (name (type_word m.value)) b (n.token ∙ ap name l.word) refl m.is
 
 column_read : (items : List ItemTree) (w : List ℕ) (level : ℕ) (h : level ≤ 7) (t : Token) (b : Body)
-    → cond (is_mark_of semicolon t) (Some (body_at (map item_of items ++ item.Column w level 0 ∷ []) its.Start)) None ≡ Some b → FollowsBody items (column_end w level h) t b
-column_read items w level h t b e = let m = marked semicolon _ b t e in ends items (column_end w level h) (column_item w level h) t (mark semicolon) b m.0 refl m.1
+    → body_step (map item_of items) (its.ColumnEnd w level) t ≡ Some b → FollowsBody items (column_end w level h) t b
+column_read items w level h t b e =
+    elim (chosen (is_mark_of semicolon t) _ _ (Some b) e) [
+      | inl k ↦ ends items (column_end w level h) (column_item w (one_value level h)) t (mark semicolon) b (mark_from semicolon t k.0) refl (same_Some _ _ k.1)
+      | inr k ↦
+          let x : (is_word (codes "x") t ≡ true) × (shown_items items (its.ColumnValues w level) ≡ b) = cond_some _ _ b k.1 in
+          stays items (column_end w level h) (column_values w level h) t (reserved (codes "x")) b (word_from (codes "x") t x.0) refl x.1
+    ]
+
+values_read : (items : List ItemTree) (w : List ℕ) (level : ℕ) (h : level ≤ 7) (t : Token) (b : Body)
+    → option_map (λ v. body_at (map item_of items) (its.ColumnLast w level v)) (option_and_then log_values_of (number_in t)) ≡ Some b → FollowsBody items (column_values w level h) t b
+values_read items w level h t b e =
+    let m = mapped (λ v. body_at (map item_of items) (its.ColumnLast w level v)) _ b e in
+    let n = numbered log_values_of t m.value m.from in
+    let p = log_values_of-is n.count m.value n.is in
+    stays items (column_values w level h) (column_last w level m.value h p.fits) t (number (2 ^ m.value)) b (n.token ∙ ap number p.power) refl m.is
+
+last_read : (items : List ItemTree) (w : List ℕ) (level v : ℕ) (h : level ≤ 7) (k : v ≤ 7) (t : Token) (b : Body)
+    → cond (is_mark_of semicolon t) (Some (body_at (map item_of items ++ item.Column w level v ∷ []) its.Start)) None ≡ Some b → FollowsBody items (column_last w level v h k) t b
+last_read items w level v h k t b e = let m = marked semicolon _ b t e in ends items (column_last w level v h k) (column_item w (several_values level v h k)) t (mark semicolon) b m.0 refl m.1
 
 pub follows_body : (items : List ItemTree) (part : Part) (t : Token) (b : Body) → body_step (map item_of items) (stage_of part) t ≡ Some b → FollowsBody items part t b
 follows_body items start t b e = start_read items t b e
@@ -267,6 +335,8 @@ follows_body items column_name t b e = name_read items column_name its.ColumnCol
 follows_body items (column_colon w) t b e = mark_read items (column_colon w) (column_type w) colon t b refl e
 follows_body items (column_type w) t b e = type_read items w t b e
 follows_body items (column_end w level h) t b e = column_read items w level h t b e
+follows_body items (column_values w level h) t b e = values_read items w level h t b e
+follows_body items (column_last w level v h k) t b e = last_read items w level v h k t b e
 follows_body items zero_name t b e = name_read items zero_name its.ZeroColon zero_colon t b (λ w. refl) (λ w. refl) e
 follows_body items (zero_colon w) t b e = mark_read items (zero_colon w) (operand w [] None None) colon t b refl e
 follows_body items (operand w o s p) t b e = operand_read items w o s p t b e
@@ -318,6 +388,8 @@ start_only column_name e = cc
 start_only (column_colon w) e = cc
 start_only (column_type w) e = cc
 start_only (column_end w level h) e = cc
+start_only (column_values w level h) e = cc
+start_only (column_last w level v h k) e = cc
 start_only zero_name e = cc
 start_only (zero_colon w) e = cc
 start_only (operand w o s p) e = cc

@@ -1,9 +1,9 @@
 -- What the machine has read, as trees of the grammar, some of them unfinished.
-use Rattle.std.proofs.Common.{◌≡◌, ℕ, ◌≤◌, List, [], ◌∷◌, ◌++◌, Option, Some, None, refl, sym, append_assoc}
+use Rattle.std.proofs.Common.{◌≡◌, ℕ, ◌≤◌, ◌^◌, List, [], ◌∷◌, ◌++◌, Option, Some, None, refl, sym, append_assoc}
 use Rattle.std.specs.Prelude.{map, codes}
 use Rattle.std.specs.List.{flat_map}
 use Rattle.table_text.specs.Bytes.{open_paren, times_sign, plus_sign, colon, open_brace}
-use Rattle.table_text.specs.Lexing.{Token, name, reserved, mark}
+use Rattle.table_text.specs.Lexing.{Token, name, reserved, number, mark}
 use Rattle.table_text.specs.Grammar.{Sum, first_term, plus, Product, first_factor, times, Atom, ItemTree, FileTree, sum_tokens, product_tokens, atom_tokens, type_word, item_tokens, file_tokens, terms, factors, atom_expr, product_of, item_of, table_of}
 use Rattle.table_text.specs.Machine.{body_at, state_at}
 use Rattle.table_text.specs.declared.expr.Expr.{Expr}
@@ -61,6 +61,8 @@ pub data Part : Type 0 where
   column_colon : List ℕ → Part
   column_type : List ℕ → Part
   column_end : List ℕ → (level : ℕ) → level ≤ 7 → Part
+  column_values : List ℕ → (level : ℕ) → level ≤ 7 → Part
+  column_last : List ℕ → (level v : ℕ) → level ≤ 7 → v ≤ 7 → Part
   zero_name : Part
   zero_colon : List ℕ → Part
   operand : List ℕ → List FrameTree → Option Sum → Option Product → Part
@@ -72,6 +74,8 @@ stage_of column_name = its.ColumnName
 stage_of (column_colon w) = its.ColumnColon w
 stage_of (column_type w) = its.ColumnType w
 stage_of (column_end w level _) = its.ColumnEnd w level
+stage_of (column_values w level _) = its.ColumnValues w level
+stage_of (column_last w level v _ _) = its.ColumnLast w level v
 stage_of zero_name = its.ZeroName
 stage_of (zero_colon w) = its.ZeroColon w
 stage_of (operand w o s p) = its.Operand w (record { outer = outer_frames o; terms = plus_terms s; factors = times_factors p })
@@ -83,6 +87,8 @@ part_tokens column_name = reserved (codes "column") ∷ []
 part_tokens (column_colon w) = reserved (codes "column") ∷ name w ∷ []
 part_tokens (column_type w) = reserved (codes "column") ∷ name w ∷ mark colon ∷ []
 part_tokens (column_end w level _) = reserved (codes "column") ∷ name w ∷ mark colon ∷ name (type_word level) ∷ []
+part_tokens (column_values w level _) = reserved (codes "column") ∷ name w ∷ mark colon ∷ name (type_word level) ∷ reserved (codes "x") ∷ []
+part_tokens (column_last w level v _ _) = reserved (codes "column") ∷ name w ∷ mark colon ∷ name (type_word level) ∷ reserved (codes "x") ∷ number (2 ^ v) ∷ []
 part_tokens zero_name = reserved (codes "zero") ∷ []
 part_tokens (zero_colon w) = reserved (codes "zero") ∷ name w ∷ []
 part_tokens (operand w o s p) = reserved (codes "zero") ∷ name w ∷ mark colon ∷ ((outer_tokens o ++ plus_tokens s) ++ times_tokens p)

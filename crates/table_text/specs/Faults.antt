@@ -14,7 +14,7 @@ use Rattle.table_text.specs.declared.fault.TextKind.TheVariants.{NotText, Unexpe
 
 -- words of the language that aren't read yet
 abbrev pub unbuilt_words : List (List ℕ)
-unbuilt_words = codes "channel" ∷ codes "boundary" ∷ codes "virtual" ∷ codes "push" ∷ codes "pull" ∷ codes "x" ∷ []
+unbuilt_words = codes "channel" ∷ codes "boundary" ∷ codes "virtual" ∷ codes "push" ∷ codes "pull" ∷ []
 
 -- what is wrong with a token wherever it stands
 abbrev pub own_fault : Token → Option TextKind

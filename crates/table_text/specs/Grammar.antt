@@ -1,9 +1,9 @@
 -- The grammar: its trees, the tokens that each spells, and the declarations that it means.
 -- Source: docs/LANGUAGE.md, "Grammar".
-use Rattle.std.specs.Prelude.{◌≡◌, ℕ, ◌≤◌, List, [], ◌∷◌, ◌++◌, map, slice_index_or, codes}
+use Rattle.std.specs.Prelude.{◌≡◌, ℕ, ◌≤◌, ◌^◌, List, [], ◌∷◌, ◌++◌, map, slice_index_or, codes}
 use Rattle.std.specs.List.{flat_map}
 use Rattle.table_text.specs.Bytes.{open_paren, close_paren, times_sign, plus_sign, colon, semicolon, open_brace, close_brace}
-use Rattle.table_text.specs.Limits.{max_level}
+use Rattle.table_text.specs.Limits.{max_level, max_log_values}
 use Rattle.table_text.specs.Lexing.{Token, name, reserved, number, mark}
 use Rattle.table_text.specs.declared.expr.Expr.{Expr}
 use Rattle.table_text.specs.declared.expr.Expr.TheVariants as expr
@@ -27,9 +27,14 @@ mutual
     column : List ℕ → Atom
     parens : Sum → Atom
 
+-- type = ( "b1" | .. | "b128" ) [ "x" number ], the number 1, 2, 4, .. or 128
+pub data TypeTree : Type 0 where
+  one_value : (level : ℕ) → level ≤ max_level → TypeTree
+  several_values : (level log_values : ℕ) → level ≤ max_level → log_values ≤ max_log_values → TypeTree
+
 -- item = "column" name ":" type ";" | "zero" name ":" sum ";"
 pub data ItemTree : Type 0 where
-  column_item : List ℕ → (level : ℕ) → level ≤ max_level → ItemTree
+  column_item : List ℕ → TypeTree → ItemTree
   zero_item : List ℕ → Sum → ItemTree
 
 -- table = "table" name "{" { item } "}"
@@ -64,8 +69,12 @@ type_words = codes "b1" ∷ codes "b2" ∷ codes "b4" ∷ codes "b8" ∷ codes "
 abbrev pub type_word : ℕ → List ℕ
 type_word level = slice_index_or type_words level []
 
+abbrev pub type_tokens : TypeTree → List Token
+type_tokens (one_value level _) = name (type_word level) ∷ []
+type_tokens (several_values level log_values _ _) = name (type_word level) ∷ reserved (codes "x") ∷ number (2 ^ log_values) ∷ []
+
 abbrev pub item_tokens : ItemTree → List Token
-item_tokens (column_item w level _) = reserved (codes "column") ∷ name w ∷ mark colon ∷ name (type_word level) ∷ mark semicolon ∷ []
+item_tokens (column_item w t) = reserved (codes "column") ∷ name w ∷ mark colon ∷ type_tokens t ++ mark semicolon ∷ []
 item_tokens (zero_item w s) = reserved (codes "zero") ∷ name w ∷ mark colon ∷ sum_tokens s ++ mark semicolon ∷ []
 
 abbrev pub table_tokens : TableTree → List Token
@@ -101,7 +110,8 @@ abbrev mutual
   atom_expr (parens s) = sum_of (terms s)
 
 abbrev pub item_of : ItemTree → Item
-item_of (column_item w level _) = item.Column w level 0
+item_of (column_item w (one_value level _)) = item.Column w level 0
+item_of (column_item w (several_values level log_values _ _)) = item.Column w level log_values
 item_of (zero_item w s) = item.Zero w (sum_of (terms s))
 
 abbrev pub table_of : TableTree → Decl

@@ -15,7 +15,7 @@ use Rattle.table_text.specs.declared.decl.Decl.TheVariants as decl
 use Rattle.table_text.specs.declared.formula.Frame.{Frame}
 use Rattle.table_text.specs.declared.formula.Formula.{Formula}
 use Rattle.table_text.specs.declared.body.ItemStage.{ItemStage}
-use Rattle.table_text.specs.declared.body.ItemStage.TheVariants.{Start, ColumnName, ColumnColon, ColumnType, ColumnEnd, ZeroName, ZeroColon, Operand, Operator}
+use Rattle.table_text.specs.declared.body.ItemStage.TheVariants.{Start, ColumnName, ColumnColon, ColumnType, ColumnEnd, ColumnValues, ColumnLast, ZeroName, ZeroColon, Operand, Operator}
 use Rattle.table_text.specs.declared.body.Body.{Body}
 use Rattle.table_text.specs.declared.state.Stage.{Stage}
 use Rattle.table_text.specs.declared.state.Stage.TheVariants as stage
@@ -46,6 +46,26 @@ place_among n (word ∷ words) w = if bytes_eq w word then Some n else place_amo
 -- the level of a type's word
 abbrev pub level_of : List ℕ → Option ℕ
 level_of w = place_among 0 type_words w
+
+abbrev pub number_in : Token → Option ℕ
+number_in (name w) = None
+number_in (reserved w) = None
+number_in (number n) = Some n
+number_in (mark b) = None
+number_in (wrong kind) = None
+
+-- the place of a number among numbers, from a number on
+abbrev pub count_among : ℕ → List ℕ → ℕ → Option ℕ
+count_among n [] k = None
+count_among n (count ∷ counts) k = if k == count then Some n else count_among (n + 1) counts k
+
+-- how many values a column may have per row
+abbrev pub value_counts : List ℕ
+value_counts = 1 ∷ 2 ∷ 4 ∷ 8 ∷ 16 ∷ 32 ∷ 64 ∷ 128 ∷ []
+
+-- the logarithm of a number of values
+abbrev pub log_values_of : ℕ → Option ℕ
+log_values_of k = count_among 0 value_counts k
 
 -- ---- an expression that is being read
 
@@ -114,7 +134,10 @@ body_step items Start token =
 body_step items ColumnName token = option_map (λ w. body_at items (ColumnColon w)) (name_of token)
 body_step items (ColumnColon n) token = if is_mark_of colon token then Some (body_at items (ColumnType n)) else None
 body_step items (ColumnType n) token = option_map (λ level. body_at items (ColumnEnd n level)) (option_and_then level_of (name_of token))
-body_step items (ColumnEnd n level) token = if is_mark_of semicolon token then Some (body_at (items ++ item.Column n level 0 ∷ []) Start) else None
+body_step items (ColumnEnd n level) token =
+    if is_mark_of semicolon token then Some (body_at (items ++ item.Column n level 0 ∷ []) Start) else (if is_word (codes "x") token then Some (body_at items (ColumnValues n level)) else None)
+body_step items (ColumnValues n level) token = option_map (λ v. body_at items (ColumnLast n level v)) (option_and_then log_values_of (number_in token))
+body_step items (ColumnLast n level v) token = if is_mark_of semicolon token then Some (body_at (items ++ item.Column n level v ∷ []) Start) else None
 body_step items ZeroName token = option_map (λ w. body_at items (ZeroColon w)) (name_of token)
 body_step items (ZeroColon n) token = if is_mark_of colon token then Some (body_at items (Operand n no_formula)) else None
 body_step items (Operand n f) token = option_map (body_at items) (operand_step n f token)
@@ -128,6 +151,8 @@ is_start ColumnName = false
 is_start (ColumnColon n) = false
 is_start (ColumnType n) = false
 is_start (ColumnEnd n level) = false
+is_start (ColumnValues n level) = false
+is_start (ColumnLast n level v) = false
 is_start ZeroName = false
 is_start (ZeroColon n) = false
 is_start (Operand n f) = false

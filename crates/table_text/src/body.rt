@@ -9,7 +9,7 @@ use crate::decl::{Item, TableItems};
 use crate::expr::{Expr, Name};
 use crate::formula::Formula;
 use crate::refusal::Refusal;
-use crate::token::{Token, is_mark, is_word, level_of, name_of};
+use crate::token::{Token, is_mark, is_word, level_of, log_values_of, name_of};
 use sqlite_items::Items;
 use std::alloc::Global;
 
@@ -21,7 +21,10 @@ pub(crate) enum ItemStage {
     ColumnName,
     ColumnColon(Name),
     ColumnType(Name),
+    /// After a type's word: `x`, or the end of the column.
     ColumnEnd(Name, u32),
+    ColumnValues(Name, u32),
+    ColumnLast(Name, u32, u32),
     ZeroName,
     ZeroColon(Name),
     Operand(Name, Formula),
@@ -138,6 +141,23 @@ pub(crate) fn body_step(alloc: Global, body: Body, token: Token<'_>) -> Result<B
                 name,
                 level,
                 log_values: 0,
+            })?;
+            let stage = ItemStage::Start;
+            Ok(Body { items, stage })
+        }
+        ItemStage::ColumnEnd(name, level) if is_word(token, b"x") => {
+            let stage = ItemStage::ColumnValues(name, level);
+            Ok(Body { items, stage })
+        }
+        ItemStage::ColumnValues(name, level) => {
+            let stage = ItemStage::ColumnLast(name, level, log_values_of(token)?);
+            Ok(Body { items, stage })
+        }
+        ItemStage::ColumnLast(name, level, log_values) if is_mark(token, b';') => {
+            items.push(Item::Column {
+                name,
+                level,
+                log_values,
             })?;
             let stage = ItemStage::Start;
             Ok(Body { items, stage })

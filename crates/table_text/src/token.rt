@@ -4,7 +4,7 @@ ghost use Rattle.std.specs.Prelude.{◌≡◌, option_and_then};
 ghost use Rattle.std.specs.List.{list_any};
 ghost use Rattle.std.specs.Str.{bytes_eq};
 ghost use Rattle.table_text.specs.Faults.{is_mark_of, begins_declaration, own_fault, unbuilt_words};
-ghost use Rattle.table_text.specs.Machine.{is_word, level_of, name_of};
+ghost use Rattle.table_text.specs.Machine.{is_word, level_of, log_values_of, name_of, number_in};
 ghost use Rattle.table_text.specs.TokenMeaning.{shown};
 ghost use Rattle.table_text.specs.StepMeaning.{IsStepTo};
 
@@ -77,7 +77,6 @@ fn is_unbuilt(word: &[u8]) -> bool
         || word == b"virtual".as_slice()
         || word == b"push".as_slice()
         || word == b"pull".as_slice()
-        || word == b"x".as_slice()
 }
 
 /// A word that isn't reserved, as a name.
@@ -115,5 +114,25 @@ pub(crate) fn level_of(token: Token<'_>) -> Result<u32, Refusal>
         Ok(7)
     } else {
         Err(Refusal::Unexpected)
+    }
+}
+
+/// The logarithm of a number of values per row.
+pub(crate) fn log_values_of(token: Token<'_>) -> Result<u32, Refusal>
+    ensures { IsStepTo result (option_and_then log_values_of (number_in (shown token.entry))) }
+{
+    let Token::Number(number) = token else {
+        return Err(Refusal::Unexpected);
+    };
+    match number {
+        1 => Ok(0),
+        2 => Ok(1),
+        4 => Ok(2),
+        8 => Ok(3),
+        16 => Ok(4),
+        32 => Ok(5),
+        64 => Ok(6),
+        128 => Ok(7),
+        _ => Err(Refusal::Unexpected),
     }
 }

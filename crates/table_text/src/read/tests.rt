@@ -24,6 +24,34 @@ fn constraint(alloc: Global, front: &[u8], back: &[u8]) -> Result<Vec<u8>, Alloc
 }
 
 #[test]
+fn numbers_of_values(rt: HostRuntime) -> Result<(), Fail> {
+    for (text, own, expected) in [
+        ("table t { column a : b1 x 1; }", 0, 0),
+        ("table t { column a : b2 x 2; }", 1, 1),
+        ("table t { column a : b4 x 0x20; }", 2, 5),
+        ("table t { column a : b8 x 032; }", 3, 5),
+        ("table t { column a : b128 x 128; }", 7, 7),
+    ] {
+        let tables = answer(&rt, text.as_bytes())?;
+        let [Decl::Table { items, .. }] = tables.decls() else {
+            panic!(rt; "not one table")
+        };
+        let [
+            Item::Column {
+                level,
+                log_values,
+                ..
+            },
+        ] = items.as_slice()
+        else {
+            panic!(rt; "not one column")
+        };
+        assert_eq!(rt; (*level, *log_values), (own, expected), "at {text}");
+    }
+    Ok(())
+}
+
+#[test]
 fn declarations(rt: HostRuntime) -> Result<(), Fail> {
     let tables = answer(&rt, b"table t { column a : b1; zero z : a*a + a; }")?;
     let [Decl::Table { name, items }] = tables.decls() else {
@@ -59,7 +87,7 @@ fn declarations(rt: HostRuntime) -> Result<(), Fail> {
     Ok(())
 }
 
-static FAULTS: [(&str, u32, TextKind); 36] = [
+static FAULTS: [(&str, u32, TextKind); 41] = [
     // What the grammar asks for isn't there.
     (
         "table t { column a : b1 zero z : a*a + a; }",
@@ -68,6 +96,12 @@ static FAULTS: [(&str, u32, TextKind); 36] = [
     ),
     ("table t { column a : b3; }", 21, TextKind::Unexpected),
     ("table t { column a : b0; }", 21, TextKind::Unexpected),
+    ("table t { column a : b1 x; }", 25, TextKind::Unexpected),
+    ("table t { column a : b1 x 3; }", 26, TextKind::Unexpected),
+    ("table t { column a : b1 x 0; }", 26, TextKind::Unexpected),
+    ("table t { column a : b1 x 256; }", 26, TextKind::Unexpected),
+    ("table t { column a : x 2; }", 21, TextKind::Unexpected),
+    ("table t { column a : b1x2; }", 21, TextKind::Unexpected),
     ("table column { }", 6, TextKind::Unexpected),
     ("table if { }", 6, TextKind::Unexpected),
     ("column a : b1;", 0, TextKind::Unexpected),
@@ -91,14 +125,13 @@ static FAULTS: [(&str, u32, TextKind); 36] = [
     ("table t { } \u{7f}", 12, TextKind::NotText),
     ("table t { } # \0", 14, TextKind::NotText),
     // Words that aren't read yet, wherever they stand.
-    ("table t { column a : b1 x 1; }", 24, TextKind::NotBuilt),
     ("channel c : 1;", 0, TextKind::NotBuilt),
     ("table t { pull c(a); }", 10, TextKind::NotBuilt),
     ("table push { }", 6, TextKind::NotBuilt),
     ("boundary", 0, TextKind::NotBuilt),
     ("table t virtual", 8, TextKind::NotBuilt),
     // Tokens are as long as possible.
-    ("table t { zero z : 0x; }", 20, TextKind::NotBuilt),
+    ("table t { zero z : 0x; }", 20, TextKind::Unexpected),
     ("table t { zero z : 12ab; }", 21, TextKind::Unexpected),
     ("table t { zero z : 0X1F; }", 20, TextKind::Unexpected),
     // 2 ^ 128.
