@@ -6,8 +6,17 @@ use Rattle.std.specs.Prelude.{map, option_map, option_and_then}
 use Rattle.std.specs.List.{flat_map}
 use Rattle.table_text.specs.Bytes.{close_paren, times_sign, plus_sign, semicolon, close_brace}
 use Rattle.table_text.specs.Lexing.{Token, name, number, mark}
-use Rattle.table_text.specs.Grammar.{Sum, first_term, plus, Product, first_factor, times, Atom, constant, column, parens, ItemTree, one_value, several_values, column_item, zero_item, TableTree, FileTree, sum_tokens, product_tokens, atom_tokens, atom_expr, terms, factors, sum_of, product_of, type_word, item_tokens, table_tokens, file_tokens, item_of, table_of}
-use Rattle.table_text.specs.Machine.{level_of, log_values_of, back_in, innermost, body_at, state_at, step, run, start}
+use Rattle.table_text.specs.Grammar.{Sum, first_term, plus, Product, first_factor, times, Atom, constant, column, parens, ItemTree, one_value, several_values, column_item, virtual_item, TermTree, plain_term, times_term, FormTree, shl_form, shr_form, rol_form, project_form, pack_form, linear_form, zero_item, term_tokens, more_term_tokens, constant_tokens, form_of, TableTree, FileTree, sum_tokens, product_tokens, atom_tokens, atom_expr, terms, factors, sum_of, product_of, type_word, item_tokens, table_tokens, file_tokens, item_of, table_of}
+use Rattle.table_text.specs.TokenClasses.{level_of, log_values_of}
+use Rattle.table_text.specs.Drafts.{no_parts, draft_at}
+use Rattle.table_text.specs.Forms.{linear_slots}
+use Rattle.table_text.specs.declared.slots.Slot.{Slot}
+use Rattle.table_text.specs.declared.slots.Slot.TheVariants.{Mark, FirstSummand, Summand, TermEnd}
+use Rattle.table_text.specs.declared.draft.Parts.{Parts}
+use Rattle.table_text.specs.declared.forms.FormWord.{FormWord}
+use Rattle.table_text.specs.declared.forms.FormWord.TheVariants.{Linear}
+use Rattle.table_text.specs.declared.forms.ItemForm.TheVariants.{Virtual}
+use Rattle.table_text.specs.Machine.{back_in, innermost, body_at, state_at, step, run, start}
 use Rattle.table_text.specs.declared.expr.Expr.{Expr}
 use Rattle.table_text.specs.declared.decl.Item.{Item}
 use Rattle.table_text.specs.declared.decl.Item.TheVariants as item
@@ -19,6 +28,8 @@ use Rattle.table_text.specs.declared.body.ItemStage.TheVariants as its
 use Rattle.table_text.specs.declared.state.Stage.TheVariants as stage
 use Rattle.table_text.specs.declared.state.State.{State}
 use Rattle.table_text.proofs.Stacks.{split_last-append}
+use Rattle.table_text.proofs.Fillings.{read_term, read_terms, read_constant}
+use Rattle.table_text.proofs.FormTrees.{linear_read}
 
 -- from s the tokens lead to t, whatever comes behind them
 pub record Leads (s : State) (tokens : List Token) (t : State) : Type 0 where
@@ -139,6 +150,56 @@ end_step : (ds : List Decl) (t : List ℕ) (items : List Item) (w : List ℕ) (s
     → step (table_at ds t items (its.Operator w (formula [] (front_terms s) (last_factors s)))) (mark semicolon) ≡ Some (table_at ds t (items ++ item.Zero w (sum_of (terms s)) ∷ []) its.Start)
 end_step ds t items w s = ap (λ ts. Some (table_at ds t (items ++ item.Zero w (sum_of ts) ∷ []) its.Start)) (terms-parts s)
 
+-- ---- virtual columns
+
+abbrev drafting : List Decl → List ℕ → List Item → List ℕ → FormWord → List Slot → Parts → State
+drafting ds t items w word slots p = table_at ds t items (its.Drafting (Virtual w word) (draft_at slots p))
+
+-- the end of a linear form
+abbrev linear_end : List Slot
+linear_end = Mark semicolon ∷ []
+
+summand_read : (ds : List Decl) (t : List ℕ) (items : List Item) (w : List ℕ) (p : Parts) (s : TermTree)
+    → Leads (drafting ds t items w Linear (Summand ∷ linear_end) p) (term_tokens s) (drafting ds t items w Linear (TermEnd ∷ linear_end) (read_term s p))
+summand_read ds t items w p (plain_term c) = record { on = λ rest. refl }
+summand_read ds t items w p (times_term k c) = record { on = λ rest. refl }
+
+first_read : (ds : List Decl) (t : List ℕ) (items : List Item) (w : List ℕ) (p : Parts) (k : Option ℕ) (s : TermTree)
+    → Leads (drafting ds t items w Linear (FirstSummand ∷ linear_end) p) (constant_tokens k ++ term_tokens s) (drafting ds t items w Linear (TermEnd ∷ linear_end) (read_term s (read_constant k p)))
+first_read ds t items w p None (plain_term c) = record { on = λ rest. refl }
+first_read ds t items w p None (times_term k c) = record { on = λ rest. refl }
+first_read ds t items w p (Some n) (plain_term c) = record { on = λ rest. refl }
+first_read ds t items w p (Some n) (times_term k c) = record { on = λ rest. refl }
+
+terms_read : (ds : List Decl) (t : List ℕ) (items : List Item) (w : List ℕ) (p : Parts) (ts : List TermTree)
+    → Leads (drafting ds t items w Linear (TermEnd ∷ linear_end) p) (more_term_tokens ts) (drafting ds t items w Linear (TermEnd ∷ linear_end) (read_terms ts p))
+terms_read ds t items w p [] = nothing _
+terms_read ds t items w p (s ∷ ts) = first _ (drafting ds t items w Linear (Summand ∷ linear_end) p) _ _ _ refl
+    (joined _ _ _ (term_tokens s) (more_term_tokens ts) (summand_read ds t items w p s) (terms_read ds t items w (read_term s p) ts))
+
+linear_last : (ds : List Decl) (t : List ℕ) (items : List Item) (w : List ℕ) (k : Option ℕ) (s : TermTree) (ts : List TermTree)
+    → step (drafting ds t items w Linear linear_end (read_terms ts (read_term s (read_constant k no_parts)))) (mark semicolon) ≡ Some (table_at ds t (items ++ item.Virtual w (form_of (linear_form k s ts)) ∷ []) its.Start)
+linear_last ds t items w k s ts = ap (λ o. option_map (λ b. state_at ds (stage.Table t b)) (option_map (λ i. body_at (items ++ i ∷ []) its.Start) (option_map (λ f. item.Virtual w f) o))) (linear_read k s ts)
+
+form_read : (ds : List Decl) (t : List ℕ) (items : List Item) (w : List ℕ) (f : FormTree)
+    → Leads (table_at ds t items its.Start) (item_tokens (virtual_item w f)) (table_at ds t (items ++ item.Virtual w (form_of f) ∷ []) its.Start)
+form_read ds t items w (shl_form c b o) = record { on = λ rest. refl }
+form_read ds t items w (shr_form c b o) = record { on = λ rest. refl }
+form_read ds t items w (rol_form c b o) = record { on = λ rest. refl }
+form_read ds t items w (project_form c k j) = record { on = λ rest. refl }
+form_read ds t items w (pack_form c k) = record { on = λ rest. refl }
+form_read ds t items w (linear_form k s ts) =
+    first _ (table_at ds t items its.VirtualName) _ _ _ refl
+    (first _ (table_at ds t items (its.VirtualEquals w)) _ _ _ refl
+    (first _ (table_at ds t items (its.VirtualForm w)) _ _ _ refl
+    (first _ (drafting ds t items w Linear linear_slots no_parts) _ _ _ refl
+    (first _ (drafting ds t items w Linear (FirstSummand ∷ linear_end) no_parts) _ _ _ refl
+    (subst (λ tokens. Leads (drafting ds t items w Linear (FirstSummand ∷ linear_end) no_parts) tokens (table_at ds t (items ++ item.Virtual w (form_of (linear_form k s ts)) ∷ []) its.Start)) (simp append_assoc refl)
+    (joined _ _ _ (constant_tokens k ++ term_tokens s) (more_term_tokens ts ++ mark close_paren ∷ mark semicolon ∷ []) (first_read ds t items w no_parts k s)
+    (joined _ _ _ (more_term_tokens ts) (mark close_paren ∷ mark semicolon ∷ []) (terms_read ds t items w (read_term s (read_constant k no_parts)) ts)
+    (first _ (drafting ds t items w Linear linear_end (read_terms ts (read_term s (read_constant k no_parts)))) _ _ _ refl
+    (one _ _ _ (linear_last ds t items w k s ts))))))))))
+
 item_read : (ds : List Decl) (t : List ℕ) (items : List Item) (i : ItemTree) → Leads (table_at ds t items its.Start) (item_tokens i) (table_at ds t (items ++ item_of i ∷ []) its.Start)
 item_read ds t items (column_item w (one_value level h)) =
     first _ (table_at ds t items its.ColumnName) _ _ _ refl
@@ -154,6 +215,7 @@ item_read ds t items (column_item w (several_values level v h k)) =
     (first _ (table_at ds t items (its.ColumnValues w level)) _ _ _ refl
     (first _ (table_at ds t items (its.ColumnLast w level v)) _ _ _ (values_step ds t items w level v k)
     (one _ _ _ refl))))))
+item_read ds t items (virtual_item w f) = form_read ds t items w f
 item_read ds t items (zero_item w s) =
     first _ (table_at ds t items its.ZeroName) _ _ _ refl
     (first _ (table_at ds t items (its.ZeroColon w)) _ _ _ refl

@@ -4,10 +4,14 @@ use Rattle.std.proofs.lemmas.List.{append-nil}
 use Rattle.std.proofs.lemmas.Grind.{flat_map-append}
 use Rattle.std.specs.Prelude.{codes}
 use Rattle.std.specs.List.{flat_map}
-use Rattle.table_text.specs.Bytes.{close_paren, colon, semicolon, open_brace, close_brace}
+use Rattle.table_text.specs.Bytes.{close_paren, equals_sign, colon, semicolon, open_brace, close_brace}
 use Rattle.table_text.specs.Lexing.{Token, name, reserved, number, mark}
-use Rattle.table_text.specs.Grammar.{Sum, first_term, Product, first_factor, constant, parens, ItemTree, one_value, several_values, column_item, zero_item, TableTree, FileTree, sum_tokens, product_tokens, type_word, item_tokens, table_tokens, file_tokens, Begins}
-use Rattle.table_text.proofs.Trees.{plus_tokens, times_tokens, with_product, with_atom, FrameTree, outer_tokens, Part, start, column_name, column_colon, column_type, column_end, column_values, column_last, zero_name, zero_colon, operand, operator, part_tokens, TablePart, file, table_name, table_brace, table, table_part_tokens, spelled, product_tokens-with_atom, sum_tokens-with_product}
+use Rattle.table_text.specs.Grammar.{Sum, first_term, Product, first_factor, constant, parens, ItemTree, one_value, several_values, column_item, virtual_item, pack_form, zero_item, TableTree, FileTree, sum_tokens, product_tokens, type_word, form_tokens, item_tokens, table_tokens, file_tokens, Begins}
+use Rattle.table_text.specs.Drafts.{no_parts, draft_at}
+use Rattle.table_text.specs.Forms.{item_slots}
+use Rattle.table_text.proofs.Fillings.{can_go_on, unread}
+use Rattle.table_text.proofs.FormTrees.{item_head, item_filled}
+use Rattle.table_text.proofs.Trees.{plus_tokens, times_tokens, with_product, with_atom, FrameTree, outer_tokens, Part, start, column_name, column_colon, column_type, column_end, column_values, column_last, virtual_name, virtual_equals, virtual_form, drafting, zero_name, zero_colon, operand, operator, part_tokens, TablePart, file, table_name, table_brace, table, table_part_tokens, spelled, product_tokens-with_atom, sum_tokens-with_product}
 
 -- a sum that begins with these tokens
 pub record SumFrom (tokens : List Token) : Type 0 where
@@ -47,6 +51,13 @@ complete_part (column_type w) = one_item (column_item w (one_value 0 (lit≤ tt)
 complete_part (column_end w level h) = one_item (column_item w (one_value level h)) _ (mark semicolon ∷ []) refl
 complete_part (column_values w level h) = one_item (column_item w (several_values level 0 h (lit≤ tt))) _ (number 1 ∷ mark semicolon ∷ []) refl
 complete_part (column_last w level v h k) = one_item (column_item w (several_values level v h k)) _ (mark semicolon ∷ []) refl
+complete_part virtual_name = one_item (virtual_item [] (pack_form [] 0)) _ (name [] ∷ mark equals_sign ∷ form_tokens (pack_form [] 0) ++ mark semicolon ∷ []) refl
+complete_part (virtual_equals w) = one_item (virtual_item w (pack_form [] 0)) _ (mark equals_sign ∷ form_tokens (pack_form [] 0) ++ mark semicolon ∷ []) refl
+complete_part (virtual_form w) = one_item (virtual_item w (pack_form [] 0)) _ (form_tokens (pack_form [] 0) ++ mark semicolon ∷ []) refl
+complete_part (drafting form tokens d h) =
+    let on = can_go_on d in
+    let i = item_filled form (tokens ++ on.tokens) on.parts (unread tokens (draft_at (item_slots form) no_parts) d on.tokens on.parts h on.fills) in
+    one_item i.tree (item_head form ++ tokens) on.tokens (i.spells ∙ sym (append_assoc (item_head form) tokens on.tokens))
 complete_part zero_name = one_item (zero_item [] (first_term (first_factor (constant 0)))) _ (name [] ∷ mark colon ∷ number 0 ∷ mark semicolon ∷ []) refl
 complete_part (zero_colon w) = one_item (zero_item w (first_term (first_factor (constant 0)))) _ (mark colon ∷ number 0 ∷ mark semicolon ∷ []) refl
 complete_part (operand w o s p) = zero_from w _ (close_operand o s p)

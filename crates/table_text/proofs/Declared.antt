@@ -1,14 +1,14 @@
 -- How many declarations a text has.
-use Rattle.std.proofs.Common.{◌≡◌, ℕ, zero, suc, ◌+◌, ◌≤◌, ◌<◌, true, false, cond, List, [], ◌∷◌, ◌++◌, length, take, get_or, refl, sym, ◌∙◌, ap, subst, arith, lit≤}
+use Rattle.std.proofs.Common.{◌≡◌, ℕ, zero, suc, ◌+◌, ◌≤◌, ◌<◌, true, false, cond, List, [], ◌∷◌, ◌++◌, length, take, get_or, append_assoc, Option, Some, None, refl, sym, ◌∙◌, ap, subst, arith, lit≤}
 use Rattle.std.specs.Prelude.{map, count_by, slice_get, codes, MatchOption}
 use Rattle.std.specs.List.{flat_map}
 use Rattle.std.proofs.lemmas.List.{length-map}
 use Rattle.std.proofs.Math.Seq.{take-suc, take-length}
 use Rattle.std.proofs.lemmas.Option.{slice_get-get_or}
 use Rattle.std.proofs.lemmas.List.Sums.{sum_by-append}
-use Rattle.table_text.specs.Bytes.{close_paren, times_sign, plus_sign, colon, semicolon, open_brace, close_brace}
+use Rattle.table_text.specs.Bytes.{open_paren, close_paren, times_sign, plus_sign, equals_sign, colon, semicolon, open_brace, close_brace}
 use Rattle.table_text.specs.Lexing.{Token, name, reserved, mark, spots}
-use Rattle.table_text.specs.Grammar.{Sum, first_term, plus, Product, first_factor, times, Atom, constant, column, parens, sum_tokens, product_tokens, atom_tokens, ItemTree, one_value, several_values, column_item, zero_item, item_tokens, item_of, TableTree, table_tokens, table_of, FileTree, file_tokens}
+use Rattle.table_text.specs.Grammar.{Sum, first_term, plus, Product, first_factor, times, Atom, constant, column, parens, sum_tokens, product_tokens, atom_tokens, ItemTree, one_value, several_values, column_item, virtual_item, TermTree, plain_term, times_term, FormTree, shl_form, shr_form, rol_form, project_form, pack_form, linear_form, zero_item, term_tokens, more_term_tokens, constant_tokens, item_tokens, item_of, TableTree, table_tokens, table_of, FileTree, file_tokens}
 use Rattle.table_text.specs.Limits.{max_declarations}
 use Rattle.table_text.specs.Faults.{begins_declaration, IsTaken, AreTaken, IsTablesText}
 use Rattle.table_text.specs.Valid.{declarations}
@@ -36,9 +36,37 @@ mutual
   begun-atom (column w) = refl
   begun-atom (parens s) = begun-append (sum_tokens s) (mark close_paren ∷ []) ∙ omega (arith, begun-sum s)
 
+begun-terms : (ts : List TermTree) → begun (more_term_tokens ts) ≡ 0
+begun-terms [] = refl
+begun-terms (plain_term c ∷ ts) = begun-terms ts
+begun-terms (times_term k c ∷ ts) = begun-terms ts
+
+begun-linear : (k : Option ℕ) (t : TermTree) (ts : List TermTree) → begun ((constant_tokens k ++ (term_tokens t ++ more_term_tokens ts)) ++ mark close_paren ∷ mark semicolon ∷ []) ≡ 0
+begun-linear k t ts = begun-append (constant_tokens k ++ (term_tokens t ++ more_term_tokens ts)) (mark close_paren ∷ mark semicolon ∷ []) ∙ omega (arith, by_first k t)
+  where
+    by_first : (k : Option ℕ) (t : TermTree) → begun (constant_tokens k ++ (term_tokens t ++ more_term_tokens ts)) ≡ 0
+    by_first None (plain_term c) = begun-terms ts
+    by_first None (times_term n c) = begun-terms ts
+    by_first (Some m) (plain_term c) = begun-terms ts
+    by_first (Some m) (times_term n c) = begun-terms ts
+
+begun-form : (w : List ℕ) (f : FormTree) → begun (item_tokens (virtual_item w f)) ≡ 1
+begun-form w (shl_form c b o) = refl
+begun-form w (shr_form c b o) = refl
+begun-form w (rol_form c b o) = refl
+begun-form w (project_form c k j) = refl
+begun-form w (pack_form c k) = refl
+begun-form w (linear_form k t ts) =
+    let inside : List Token = (constant_tokens k ++ (term_tokens t ++ more_term_tokens ts)) ++ mark close_paren ∷ mark semicolon ∷ [] in
+    let head : begun (reserved (codes "virtual") ∷ name w ∷ mark equals_sign ∷ reserved (codes "linear") ∷ mark open_paren ∷ inside) ≡ 1 + begun inside =
+    begun-append (reserved (codes "virtual") ∷ name w ∷ mark equals_sign ∷ reserved (codes "linear") ∷ mark open_paren ∷ []) inside in
+    let nested : item_tokens (virtual_item w (linear_form k t ts)) ≡ reserved (codes "virtual") ∷ name w ∷ mark equals_sign ∷ reserved (codes "linear") ∷ mark open_paren ∷ inside = simp append_assoc refl in
+    ap begun nested ∙ omega (arith, begun-linear k t ts)
+
 begun-item : (i : ItemTree) → begun (item_tokens i) ≡ 1
 begun-item (column_item w (one_value level h)) = refl
 begun-item (column_item w (several_values level v h k)) = refl
+begun-item (virtual_item w f) = begun-form w f
 begun-item (zero_item w s) =
     let head : begun (reserved (codes "zero") ∷ name w ∷ mark colon ∷ sum_tokens s) ≡ 1 + begun (sum_tokens s) = begun-append (reserved (codes "zero") ∷ name w ∷ mark colon ∷ []) (sum_tokens s) in
     begun-append (reserved (codes "zero") ∷ name w ∷ mark colon ∷ sum_tokens s) (mark semicolon ∷ []) ∙ omega (arith, begun-sum s)

@@ -1,5 +1,5 @@
 -- Where the machine goes, the trees go, and they spell the token that it took.
-use Rattle.std.proofs.Common.{◌≡◌, ℕ, zero, suc, ◌+◌, ◌-◌, ◌^◌, ◌≤◌, ◌<◌, ◌⊎◌, inl, inr, Bool, true, false, cond, ◌&&◌, List, [], ◌∷◌, ◌++◌, length, Option, Some, None, refl, sym, ◌∙◌, ap, subst, append_assoc, length-append, arith}
+use Rattle.std.proofs.Common.{◌≡◌, ℕ, zero, suc, ◌+◌, ◌-◌, ◌^◌, ◌≤◌, ◌<◌, inl, inr, true, cond, ◌&&◌, List, [], ◌∷◌, ◌++◌, length, Option, Some, None, refl, sym, ◌∙◌, ap, subst, append_assoc, length-append, arith}
 use Rattle.std.proofs.lemmas.List.{append-nil, map-append}
 use Rattle.std.proofs.lemmas.Grind.{flat_map-append}
 use Rattle.std.proofs.lemmas.Option.{cond_some, none-some, same_Some}
@@ -8,11 +8,14 @@ use Rattle.std.proofs.lemmas.Slice.Eq.{bytes_eq-Decides}
 use Rattle.std.specs.Prelude.{◌==◌, slice_index_or, map, codes, option_map, option_and_then}
 use Rattle.std.specs.List.{flat_map}
 use Rattle.std.specs.Str.{bytes_eq}
-use Rattle.table_text.specs.Bytes.{open_paren, close_paren, times_sign, plus_sign, colon, semicolon, open_brace, close_brace}
+use Rattle.table_text.specs.Bytes.{open_paren, close_paren, times_sign, plus_sign, equals_sign, colon, semicolon, open_brace, close_brace}
 use Rattle.table_text.specs.Lexing.{Token, name, reserved, number, mark, wrong}
 use Rattle.table_text.specs.Faults.{is_mark_of}
+use Rattle.table_text.specs.TokenClasses.{name_of, is_word, place_among, level_of, number_in, count_among, value_counts, log_values_of}
+use Rattle.table_text.specs.Drafts.{is_done, no_parts, draft_at, draft_step}
+use Rattle.table_text.specs.Forms.{form_word, item_slots, item_from}
 use Rattle.table_text.specs.Grammar.{Sum, Product, Atom, constant, column, parens, ItemTree, one_value, several_values, column_item, zero_item, TableTree, FileTree, product_tokens, atom_tokens, atom_expr, factors, sum_of, product_of, type_word, type_words, item_tokens, table_tokens, file_tokens, item_of, table_of}
-use Rattle.table_text.specs.Machine.{name_of, is_word, place_among, level_of, number_in, count_among, value_counts, log_values_of, back_in, innermost, closed, body_at, body_step, operand_step, operator_step, stage_step, step, state_at, is_start}
+use Rattle.table_text.specs.Machine.{back_in, innermost, closed, body_at, settled, body_step, operand_step, operator_step, stage_step, step, state_at, is_start}
 use Rattle.table_text.specs.declared.formula.Formula.{Formula}
 use Rattle.table_text.specs.declared.expr.Expr.{Expr}
 use Rattle.table_text.specs.declared.decl.Item.TheVariants as item
@@ -22,82 +25,15 @@ use Rattle.table_text.specs.declared.body.ItemStage.TheVariants as its
 use Rattle.table_text.specs.declared.state.Stage.TheVariants as stage
 use Rattle.table_text.specs.declared.body.Body.{Body}
 use Rattle.table_text.specs.declared.state.State.{State}
+use Rattle.table_text.specs.declared.draft.Draft.{Draft}
+use Rattle.table_text.specs.declared.forms.FormWord.{FormWord}
+use Rattle.table_text.specs.declared.forms.ItemForm.{ItemForm}
+use Rattle.table_text.specs.declared.forms.ItemForm.TheVariants as form
 use Rattle.table_text.proofs.Stacks.{split_last-append}
-use Rattle.table_text.proofs.Trees.{plus_tokens, times_tokens, plus_terms, times_factors, with_product, with_atom, FrameTree, frame_of, outer_tokens, outer_frames, Part, start, column_name, column_colon, column_type, column_end, column_values, column_last, zero_name, zero_colon, operand, operator, stage_of, part_tokens, items_tokens, TablePart, file, table_name, table_brace, table, table_stage, table_part_tokens, spelled, state_of, product_tokens-with_atom, sum_tokens-with_product, factors-with_atom, terms-with_product}
-
--- ---- tokens from tests
-
-pub marked : {X : Type 0} (c : ℕ) (x y : X) (t : Token) → cond (is_mark_of c t) (Some x) None ≡ Some y → (t ≡ mark c) × (x ≡ y)
-marked c x y (name w) e = absurd (none-some y e)
-marked c x y (reserved w) e = absurd (none-some y e)
-marked c x y (number n) e = absurd (none-some y e)
-marked c x y (mark b) e = let p : ((c == b) ≡ true) × (x ≡ y) = cond_some _ x y e in (ap mark (sym (eqb-true c b p.0)), p.1)
-marked c x y (wrong kind) e = absurd (none-some y e)
-
-pub mark_from : (c : ℕ) (t : Token) → is_mark_of c t ≡ true → t ≡ mark c
-mark_from c (name w) e = cc
-mark_from c (reserved w) e = cc
-mark_from c (number n) e = cc
-mark_from c (mark b) e = ap mark (sym (eqb-true c b e))
-mark_from c (wrong kind) e = cc
-
-pub name_from : (t : Token) (w : List ℕ) → name_of t ≡ Some w → t ≡ name w
-name_from (name v) w e = ap name (same_Some v w e)
-name_from (reserved v) w e = absurd (none-some w e)
-name_from (number n) w e = absurd (none-some w e)
-name_from (mark b) w e = absurd (none-some w e)
-name_from (wrong kind) w e = absurd (none-some w e)
-
-pub word_from : (w : List ℕ) (t : Token) → is_word w t ≡ true → t ≡ reserved w
-word_from w (name v) e = cc
-word_from w (reserved v) e = ap reserved ((bytes_eq-Decides v w).0 e)
-word_from w (number n) e = cc
-word_from w (mark b) e = cc
-word_from w (wrong kind) e = cc
-
--- a name among tokens
-pub record Named {X : Type 0} (f : List ℕ → Option X) (t : Token) (y : X) : Type 0 where
-  pub word : List ℕ
-  pub token : t ≡ name word
-  pub is : f word ≡ Some y
-
-pub named : {X : Type 0} (f : List ℕ → Option X) (t : Token) (y : X) → option_and_then f (name_of t) ≡ Some y → Named f t y
-named f (name w) y e = record { word = w; token = refl; is = e }
-named f (reserved w) y e = absurd (none-some y e)
-named f (number n) y e = absurd (none-some y e)
-named f (mark b) y e = absurd (none-some y e)
-named f (wrong kind) y e = absurd (none-some y e)
-
--- a number among tokens
-pub record Numbered {X : Type 0} (f : ℕ → Option X) (t : Token) (y : X) : Type 0 where
-  pub count : ℕ
-  pub token : t ≡ number count
-  pub is : f count ≡ Some y
-
-pub numbered : {X : Type 0} (f : ℕ → Option X) (t : Token) (y : X) → option_and_then f (number_in t) ≡ Some y → Numbered f t y
-numbered f (name w) y e = absurd (none-some y e)
-numbered f (reserved w) y e = absurd (none-some y e)
-numbered f (number n) y e = record { count = n; token = refl; is = e }
-numbered f (mark b) y e = absurd (none-some y e)
-numbered f (wrong kind) y e = absurd (none-some y e)
-
-pub record Mapped {X Y : Type 0} (f : X → Y) (o : Option X) (y : Y) : Type 0 where
-  pub value : X
-  pub from : o ≡ Some value
-  pub is : f value ≡ y
-
-pub mapped : {X Y : Type 0} (f : X → Y) (o : Option X) (y : Y) → option_map f o ≡ Some y → Mapped f o y
-mapped f None y e = absurd (none-some y e)
-mapped f (Some x) y e = record { value = x; from = refl; is = same_Some _ _ e }
-
-pub chosen : {X : Type 0} (b : Bool) (x y z : X) → cond b x y ≡ z → ((b ≡ true) × (x ≡ z)) ⊎ ((b ≡ false) × (y ≡ z))
-chosen true x y z e = inl (refl, e)
-chosen false x y z e = inr (refl, e)
-
-pub both : (a b : Bool) → (a && b) ≡ true → (a ≡ true) × (b ≡ true)
-both true true e = (refl, refl)
-both true false e = cc
-both false b e = cc
+use Rattle.table_text.proofs.FromTests.{marked, mark_from, name_from, word_from, named, numbered, mapped, chosen, both}
+use Rattle.table_text.proofs.Fillings.{drafted, drafted-one, all_read, unread}
+use Rattle.table_text.proofs.FormTrees.{word_codes, word_from_form, item_head, item_filled}
+use Rattle.table_text.proofs.Trees.{plus_tokens, times_tokens, plus_terms, times_factors, with_product, with_atom, FrameTree, frame_of, outer_tokens, outer_frames, Part, start, column_name, column_colon, column_type, column_end, column_values, column_last, virtual_name, virtual_equals, virtual_form, drafting, zero_name, zero_colon, operand, operator, stage_of, part_tokens, items_tokens, TablePart, file, table_name, table_brace, table, table_stage, table_part_tokens, spelled, state_of, product_tokens-with_atom, sum_tokens-with_product, factors-with_atom, terms-with_product}
 
 -- ---- types' words
 
@@ -282,9 +218,12 @@ start_read : (items : List ItemTree) (t : Token) (b : Body) → body_step (map i
 start_read items t b e =
     elim (chosen (is_word (codes "column") t) _ _ (Some b) e) [
       | inl h ↦ stays items start column_name t (reserved (codes "column")) b (word_from (codes "column") t h.0) refl (same_Some _ _ h.1)
-      | inr h ↦
-          let k : (is_word (codes "zero") t ≡ true) × (shown_items items its.ZeroName ≡ b) = cond_some _ _ b h.1 in
-          stays items start zero_name t (reserved (codes "zero")) b (word_from (codes "zero") t k.0) refl k.1
+      | inr h ↦ elim (chosen (is_word (codes "virtual") t) _ _ (Some b) h.1) [
+        | inl k ↦ stays items start virtual_name t (reserved (codes "virtual")) b (word_from (codes "virtual") t k.0) refl (same_Some _ _ k.1)
+        | inr k ↦
+            let m : (is_word (codes "zero") t ≡ true) × (shown_items items its.ZeroName ≡ b) = cond_some _ _ b k.1 in
+            stays items start zero_name t (reserved (codes "zero")) b (word_from (codes "zero") t m.0) refl m.1
+      ]
     ]
 
 name_read : (items : List ItemTree) (part : Part) (f : List ℕ → ItemStage) (next : List ℕ → Part) (t : Token) (b : Body)
@@ -329,6 +268,34 @@ last_read : (items : List ItemTree) (w : List ℕ) (level v : ℕ) (h : level �
     → cond (is_mark_of semicolon t) (Some (body_at (map item_of items ++ item.Column w level v ∷ []) its.Start)) None ≡ Some b → FollowsBody items (column_last w level v h k) t b
 last_read items w level v h k t b e = let m = marked semicolon _ b t e in ends items (column_last w level v h k) (column_item w (several_values level v h k)) t (mark semicolon) b m.0 refl m.1
 
+form_read : (items : List ItemTree) (w : List ℕ) (t : Token) (b : Body)
+    → option_map (λ word. body_at (map item_of items) (its.Drafting (form.Virtual w word) (draft_at (item_slots (form.Virtual w word)) no_parts))) (form_word t) ≡ Some b → FollowsBody items (virtual_form w) t b
+form_read items w t b e =
+    let begun : FormWord → Draft = λ word. draft_at (item_slots (form.Virtual w word)) no_parts in
+    let m = mapped (λ word. body_at (map item_of items) (its.Drafting (form.Virtual w word) (begun word))) (form_word t) b e in
+    stays items (virtual_form w) (drafting (form.Virtual w m.value) [] (begun m.value) refl) t (reserved (word_codes m.value)) b (word_from_form t m.value m.from) refl m.is
+
+-- something of an item is read
+drafted_on : (items : List ItemTree) (f : ItemForm) (tokens : List Token) (d e : Draft) (h : drafted (draft_at (item_slots f) no_parts) tokens ≡ Some d) (t : Token) (b : Body)
+    → drafted (draft_at (item_slots f) no_parts) (tokens ++ t ∷ []) ≡ Some e → settled (map item_of items) f e ≡ Some b → FollowsBody items (drafting f tokens d h) t b
+drafted_on items f tokens d e h t b longer is =
+    elim (chosen (is_done e.slots) _ _ (Some b) is) [
+      | inl k ↦
+          let m = mapped (λ i. body_at (map item_of items ++ i ∷ []) its.Start) (item_from f e.parts) b k.1 in
+          let whole = unread (tokens ++ t ∷ []) (draft_at (item_slots f) no_parts) e [] e.parts longer (all_read e.slots e.parts k.0) in
+          let i = item_filled f ((tokens ++ t ∷ []) ++ []) e.parts whole in
+          let same : item_of i.tree ≡ m.value = same_Some _ _ (sym i.means ∙ m.from) in
+          ends items (drafting f tokens d h) i.tree t t b refl
+          (i.spells ∙ ap (λ ts. item_head f ++ ts) (append-nil (tokens ++ t ∷ [])) ∙ sym (append_assoc (item_head f) tokens (t ∷ [])))
+          (ap (λ x. body_at (map item_of items ++ x ∷ []) its.Start) same ∙ m.is)
+      | inr k ↦ stays items (drafting f tokens d h) (drafting f (tokens ++ t ∷ []) e longer) t t b refl (sym (append_assoc (item_head f) tokens (t ∷ []))) (same_Some _ _ k.1)
+    ]
+
+draft_read_at : (items : List ItemTree) (f : ItemForm) (tokens : List Token) (d : Draft) (h : drafted (draft_at (item_slots f) no_parts) tokens ≡ Some d) (t : Token) (b : Body) (o : Option Draft)
+    → draft_step d t ≡ o → option_and_then (settled (map item_of items) f) o ≡ Some b → FollowsBody items (drafting f tokens d h) t b
+draft_read_at items f tokens d h t b None is e = absurd (none-some b e)
+draft_read_at items f tokens d h t b (Some c) is e = drafted_on items f tokens d c h t b (drafted-one tokens (draft_at (item_slots f) no_parts) d c t h is) e
+
 pub follows_body : (items : List ItemTree) (part : Part) (t : Token) (b : Body) → body_step (map item_of items) (stage_of part) t ≡ Some b → FollowsBody items part t b
 follows_body items start t b e = start_read items t b e
 follows_body items column_name t b e = name_read items column_name its.ColumnColon column_colon t b (λ w. refl) (λ w. refl) e
@@ -337,6 +304,10 @@ follows_body items (column_type w) t b e = type_read items w t b e
 follows_body items (column_end w level h) t b e = column_read items w level h t b e
 follows_body items (column_values w level h) t b e = values_read items w level h t b e
 follows_body items (column_last w level v h k) t b e = last_read items w level v h k t b e
+follows_body items virtual_name t b e = name_read items virtual_name its.VirtualEquals virtual_equals t b (λ w. refl) (λ w. refl) e
+follows_body items (virtual_equals w) t b e = mark_read items (virtual_equals w) (virtual_form w) equals_sign t b refl e
+follows_body items (virtual_form w) t b e = form_read items w t b e
+follows_body items (drafting f tokens d h) t b e = draft_read_at items f tokens d h t b (draft_step d t) refl e
 follows_body items zero_name t b e = name_read items zero_name its.ZeroColon zero_colon t b (λ w. refl) (λ w. refl) e
 follows_body items (zero_colon w) t b e = mark_read items (zero_colon w) (operand w [] None None) colon t b refl e
 follows_body items (operand w o s p) t b e = operand_read items w o s p t b e
@@ -390,6 +361,10 @@ start_only (column_type w) e = cc
 start_only (column_end w level h) e = cc
 start_only (column_values w level h) e = cc
 start_only (column_last w level v h k) e = cc
+start_only virtual_name e = cc
+start_only (virtual_equals w) e = cc
+start_only (virtual_form w) e = cc
+start_only (drafting f tokens d h) e = cc
 start_only zero_name e = cc
 start_only (zero_colon w) e = cc
 start_only (operand w o s p) e = cc

@@ -20,7 +20,8 @@ use Rattle.table_text.specs.declared.fault.TextFault.{TextFault}
 use Rattle.table_text.specs.declared.fault.TextKind.{TextKind}
 use Rattle.table_text.specs.declared.fault.TextKind.TheVariants.{Unexpected, TooDeep, TooMany}
 use Rattle.table_text.proofs.Trees.{TablePart, file, table_name, table_brace, table, table_stage, spelled, state_of}
-use Rattle.table_text.proofs.Follows.{follows, both}
+use Rattle.table_text.proofs.FromTests.{both}
+use Rattle.table_text.proofs.Follows.{follows}
 use Rattle.table_text.proofs.Completes.{complete}
 use Rattle.table_text.proofs.Accepts.{accepts, prefix_read, run-append}
 

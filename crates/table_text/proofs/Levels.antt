@@ -2,7 +2,7 @@
 use Rattle.std.proofs.Common.{List, [], ◌∷◌, subst, lit≤}
 use Rattle.std.specs.Prelude.{map}
 use Rattle.table_text.specs.Lexing.{Token}
-use Rattle.table_text.specs.Grammar.{ItemTree, one_value, several_values, column_item, zero_item, FileTree, item_of, table_of, IsFile}
+use Rattle.table_text.specs.Grammar.{ItemTree, one_value, several_values, column_item, virtual_item, zero_item, FileTree, item_of, table_of, IsFile}
 use Rattle.table_text.specs.Valid.{ItemLevelsFit, LevelsFit}
 use Rattle.table_text.specs.declared.decl.Decl.{Decl}
 
@@ -10,6 +10,7 @@ items_fit : (items : List ItemTree) → ItemLevelsFit (map item_of items)
 items_fit [] = tt
 items_fit (column_item w (one_value level h) ∷ items) = (h, lit≤ tt, items_fit items)
 items_fit (column_item w (several_values level v h k) ∷ items) = (h, k, items_fit items)
+items_fit (virtual_item w f ∷ items) = items_fit items
 items_fit (zero_item w s ∷ items) = items_fit items
 
 tables_fit : (f : FileTree) → LevelsFit (map table_of f)

@@ -1,5 +1,8 @@
 pub mod Stacks
 pub mod Digits
+pub mod FromTests
+pub mod Fillings
+pub mod FormTrees
 pub mod Trees
 pub mod Completes
 pub mod Follows

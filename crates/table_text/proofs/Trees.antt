@@ -2,9 +2,11 @@
 use Rattle.std.proofs.Common.{◌≡◌, ℕ, ◌≤◌, ◌^◌, List, [], ◌∷◌, ◌++◌, Option, Some, None, refl, sym, append_assoc}
 use Rattle.std.specs.Prelude.{map, codes}
 use Rattle.std.specs.List.{flat_map}
-use Rattle.table_text.specs.Bytes.{open_paren, times_sign, plus_sign, colon, open_brace}
+use Rattle.table_text.specs.Bytes.{open_paren, times_sign, plus_sign, equals_sign, colon, open_brace}
 use Rattle.table_text.specs.Lexing.{Token, name, reserved, number, mark}
 use Rattle.table_text.specs.Grammar.{Sum, first_term, plus, Product, first_factor, times, Atom, ItemTree, FileTree, sum_tokens, product_tokens, atom_tokens, type_word, item_tokens, file_tokens, terms, factors, atom_expr, product_of, item_of, table_of}
+use Rattle.table_text.specs.Drafts.{no_parts, draft_at}
+use Rattle.table_text.specs.Forms.{item_slots}
 use Rattle.table_text.specs.Machine.{body_at, state_at}
 use Rattle.table_text.specs.declared.expr.Expr.{Expr}
 use Rattle.table_text.specs.declared.formula.Frame.{Frame}
@@ -13,6 +15,10 @@ use Rattle.table_text.specs.declared.body.ItemStage.TheVariants as its
 use Rattle.table_text.specs.declared.state.Stage.{Stage}
 use Rattle.table_text.specs.declared.state.Stage.TheVariants as stage
 use Rattle.table_text.specs.declared.state.State.{State}
+use Rattle.table_text.specs.declared.draft.Draft.{Draft}
+use Rattle.table_text.specs.declared.forms.ItemForm.{ItemForm}
+use Rattle.table_text.proofs.Fillings.{drafted}
+use Rattle.table_text.proofs.FormTrees.{item_head}
 
 -- a sum before a `+`, if there is one, and a product before a `*`
 abbrev pub plus_tokens : Option Sum → List Token
@@ -63,6 +69,10 @@ pub data Part : Type 0 where
   column_end : List ℕ → (level : ℕ) → level ≤ 7 → Part
   column_values : List ℕ → (level : ℕ) → level ≤ 7 → Part
   column_last : List ℕ → (level v : ℕ) → level ≤ 7 → v ≤ 7 → Part
+  virtual_name : Part
+  virtual_equals : List ℕ → Part
+  virtual_form : List ℕ → Part
+  drafting : (form : ItemForm) (tokens : List Token) (d : Draft) → drafted (draft_at (item_slots form) no_parts) tokens ≡ Some d → Part
   zero_name : Part
   zero_colon : List ℕ → Part
   operand : List ℕ → List FrameTree → Option Sum → Option Product → Part
@@ -76,6 +86,10 @@ stage_of (column_type w) = its.ColumnType w
 stage_of (column_end w level _) = its.ColumnEnd w level
 stage_of (column_values w level _) = its.ColumnValues w level
 stage_of (column_last w level v _ _) = its.ColumnLast w level v
+stage_of virtual_name = its.VirtualName
+stage_of (virtual_equals w) = its.VirtualEquals w
+stage_of (virtual_form w) = its.VirtualForm w
+stage_of (drafting form tokens d _) = its.Drafting form d
 stage_of zero_name = its.ZeroName
 stage_of (zero_colon w) = its.ZeroColon w
 stage_of (operand w o s p) = its.Operand w (record { outer = outer_frames o; terms = plus_terms s; factors = times_factors p })
@@ -89,6 +103,10 @@ part_tokens (column_type w) = reserved (codes "column") ∷ name w ∷ mark colo
 part_tokens (column_end w level _) = reserved (codes "column") ∷ name w ∷ mark colon ∷ name (type_word level) ∷ []
 part_tokens (column_values w level _) = reserved (codes "column") ∷ name w ∷ mark colon ∷ name (type_word level) ∷ reserved (codes "x") ∷ []
 part_tokens (column_last w level v _ _) = reserved (codes "column") ∷ name w ∷ mark colon ∷ name (type_word level) ∷ reserved (codes "x") ∷ number (2 ^ v) ∷ []
+part_tokens virtual_name = reserved (codes "virtual") ∷ []
+part_tokens (virtual_equals w) = reserved (codes "virtual") ∷ name w ∷ []
+part_tokens (virtual_form w) = reserved (codes "virtual") ∷ name w ∷ mark equals_sign ∷ []
+part_tokens (drafting form tokens d _) = item_head form ++ tokens
 part_tokens zero_name = reserved (codes "zero") ∷ []
 part_tokens (zero_colon w) = reserved (codes "zero") ∷ name w ∷ []
 part_tokens (operand w o s p) = reserved (codes "zero") ∷ name w ∷ mark colon ∷ ((outer_tokens o ++ plus_tokens s) ++ times_tokens p)

@@ -14,7 +14,7 @@ use Rattle.table_text.specs.declared.fault.TextKind.TheVariants.{NotText, Unexpe
 
 -- words of the language that aren't read yet
 abbrev pub unbuilt_words : List (List ℕ)
-unbuilt_words = codes "channel" ∷ codes "boundary" ∷ codes "virtual" ∷ codes "push" ∷ codes "pull" ∷ []
+unbuilt_words = codes "channel" ∷ codes "boundary" ∷ codes "push" ∷ codes "pull" ∷ []
 
 -- what is wrong with a token wherever it stands
 abbrev pub own_fault : Token → Option TextKind
@@ -33,7 +33,7 @@ is_mark_of b (wrong kind) = false
 
 -- the words with which declarations begin
 abbrev pub declaration_words : List (List ℕ)
-declaration_words = codes "table" ∷ codes "column" ∷ codes "zero" ∷ []
+declaration_words = codes "table" ∷ codes "column" ∷ codes "virtual" ∷ codes "zero" ∷ []
 
 abbrev pub begins_declaration : Token → Bool
 begins_declaration (name w) = false

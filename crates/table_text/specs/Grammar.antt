@@ -1,12 +1,15 @@
 -- The grammar: its trees, the tokens that each spells, and the declarations that it means.
 -- Source: docs/LANGUAGE.md, "Grammar".
-use Rattle.std.specs.Prelude.{◌≡◌, ℕ, ◌≤◌, ◌^◌, List, [], ◌∷◌, ◌++◌, map, slice_index_or, codes}
+use Rattle.std.specs.Prelude.{◌≡◌, ℕ, ◌≤◌, ◌^◌, List, [], ◌∷◌, ◌++◌, map, slice_index_or, codes, Option, Some, None}
 use Rattle.std.specs.List.{flat_map}
-use Rattle.table_text.specs.Bytes.{open_paren, close_paren, times_sign, plus_sign, colon, semicolon, open_brace, close_brace}
+use Rattle.table_text.specs.Bytes.{open_paren, close_paren, times_sign, plus_sign, equals_sign, colon, semicolon, comma, open_brace, close_brace}
 use Rattle.table_text.specs.Limits.{max_level, max_log_values}
 use Rattle.table_text.specs.Lexing.{Token, name, reserved, number, mark}
 use Rattle.table_text.specs.declared.expr.Expr.{Expr}
 use Rattle.table_text.specs.declared.expr.Expr.TheVariants as expr
+use Rattle.table_text.specs.declared.decl.Term.{Term}
+use Rattle.table_text.specs.declared.decl.VirtualForm.{VirtualForm}
+use Rattle.table_text.specs.declared.decl.VirtualForm.TheVariants as form
 use Rattle.table_text.specs.declared.decl.Item.{Item}
 use Rattle.table_text.specs.declared.decl.Item.TheVariants as item
 use Rattle.table_text.specs.declared.decl.Decl.{Decl}
@@ -32,9 +35,21 @@ pub data TypeTree : Type 0 where
   one_value : (level : ℕ) → level ≤ max_level → TypeTree
   several_values : (level log_values : ℕ) → level ≤ max_level → log_values ≤ max_log_values → TypeTree
 
--- item = "column" name ":" type ";" | "zero" name ":" sum ";"
+-- lterm = [ number "*" ] name
+pub data TermTree : Type 0 where
+  plain_term : List ℕ → TermTree
+  times_term : ℕ → List ℕ → TermTree
+
+-- form = ( "shl" | "shr" | "rol" | "project" ) "(" name "," number "," number ")" | "pack" "(" name "," number ")" | "linear" "(" [ number "+" ] lterm { "+" lterm } ")"
+pub data FormTree : Type 0 where
+  shl_form shr_form rol_form project_form : List ℕ → ℕ → ℕ → FormTree
+  pack_form : List ℕ → ℕ → FormTree
+  linear_form : Option ℕ → TermTree → List TermTree → FormTree
+
+-- item = "column" name ":" type ";" | "virtual" name "=" form ";" | "zero" name ":" sum ";"
 pub data ItemTree : Type 0 where
   column_item : List ℕ → TypeTree → ItemTree
+  virtual_item : List ℕ → FormTree → ItemTree
   zero_item : List ℕ → Sum → ItemTree
 
 -- table = "table" name "{" { item } "}"
@@ -73,8 +88,34 @@ abbrev pub type_tokens : TypeTree → List Token
 type_tokens (one_value level _) = name (type_word level) ∷ []
 type_tokens (several_values level log_values _ _) = name (type_word level) ∷ reserved (codes "x") ∷ number (2 ^ log_values) ∷ []
 
+abbrev pub term_tokens : TermTree → List Token
+term_tokens (plain_term c) = name c ∷ []
+term_tokens (times_term k c) = number k ∷ mark times_sign ∷ name c ∷ []
+
+-- the terms behind the first
+abbrev pub more_term_tokens : List TermTree → List Token
+more_term_tokens [] = []
+more_term_tokens (t ∷ ts) = mark plus_sign ∷ (term_tokens t ++ more_term_tokens ts)
+
+abbrev pub constant_tokens : Option ℕ → List Token
+constant_tokens None = []
+constant_tokens (Some n) = number n ∷ mark plus_sign ∷ []
+
+-- "(" name "," number "," number ")"
+abbrev pub shift_tokens : List ℕ → ℕ → ℕ → List Token
+shift_tokens c m n = mark open_paren ∷ name c ∷ mark comma ∷ number m ∷ mark comma ∷ number n ∷ mark close_paren ∷ []
+
+abbrev pub form_tokens : FormTree → List Token
+form_tokens (shl_form c b o) = reserved (codes "shl") ∷ shift_tokens c b o
+form_tokens (shr_form c b o) = reserved (codes "shr") ∷ shift_tokens c b o
+form_tokens (rol_form c b o) = reserved (codes "rol") ∷ shift_tokens c b o
+form_tokens (project_form c k j) = reserved (codes "project") ∷ shift_tokens c k j
+form_tokens (pack_form c k) = reserved (codes "pack") ∷ mark open_paren ∷ name c ∷ mark comma ∷ number k ∷ mark close_paren ∷ []
+form_tokens (linear_form k t ts) = reserved (codes "linear") ∷ mark open_paren ∷ (constant_tokens k ++ (term_tokens t ++ more_term_tokens ts)) ++ mark close_paren ∷ []
+
 abbrev pub item_tokens : ItemTree → List Token
 item_tokens (column_item w t) = reserved (codes "column") ∷ name w ∷ mark colon ∷ type_tokens t ++ mark semicolon ∷ []
+item_tokens (virtual_item w f) = reserved (codes "virtual") ∷ name w ∷ mark equals_sign ∷ form_tokens f ++ mark semicolon ∷ []
 item_tokens (zero_item w s) = reserved (codes "zero") ∷ name w ∷ mark colon ∷ sum_tokens s ++ mark semicolon ∷ []
 
 abbrev pub table_tokens : TableTree → List Token
@@ -83,7 +124,7 @@ table_tokens t = reserved (codes "table") ∷ name t.name ∷ mark open_brace �
 abbrev pub file_tokens : FileTree → List Token
 file_tokens f = flat_map table_tokens f
 
--- ---- what a tree means: a sum or a product of one part is that part
+-- ---- what a tree means: a sum or a product of one part is that part; a constant that isn't written is 0, a coefficient 1
 
 abbrev pub sum_of : List Expr → Expr
 sum_of [] = expr.Sum []
@@ -109,9 +150,26 @@ abbrev mutual
   atom_expr (column w) = expr.Column w
   atom_expr (parens s) = sum_of (terms s)
 
+abbrev pub term_of : TermTree → Term
+term_of (plain_term c) = record { coefficient = 1; column = c }
+term_of (times_term k c) = record { coefficient = k; column = c }
+
+abbrev pub constant_of : Option ℕ → ℕ
+constant_of None = 0
+constant_of (Some n) = n
+
+abbrev pub form_of : FormTree → VirtualForm
+form_of (shl_form c b o) = form.Shl c b o
+form_of (shr_form c b o) = form.Shr c b o
+form_of (rol_form c b o) = form.Rol c b o
+form_of (project_form c k j) = form.Project c k j
+form_of (pack_form c k) = form.Pack c k
+form_of (linear_form k t ts) = form.Linear (constant_of k) (map term_of (t ∷ ts))
+
 abbrev pub item_of : ItemTree → Item
 item_of (column_item w (one_value level _)) = item.Column w level 0
 item_of (column_item w (several_values level log_values _ _)) = item.Column w level log_values
+item_of (virtual_item w f) = item.Virtual w (form_of f)
 item_of (zero_item w s) = item.Zero w (sum_of (terms s))
 
 abbrev pub table_of : TableTree → Decl

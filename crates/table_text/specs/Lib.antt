@@ -4,6 +4,9 @@ pub mod Lexing
 pub mod Grammar
 pub mod Valid
 pub mod Faults
+pub mod TokenClasses
+pub mod Drafts
+pub mod Forms
 pub mod Machine
 pub mod TokenMeaning
 pub mod Reading

@@ -1,11 +1,13 @@
 -- The reader as a machine: what it has read, and what it becomes by one token more. None: the grammar has no such token there.
 -- Source: docs/ARCHITECTURE.md, "Within table_text".
-use Rattle.std.specs.Prelude.{ℕ, ◌+◌, Bool, true, false, ◌&&◌, ◌==◌, if◌then◌else◌, List, [], ◌∷◌, ◌++◌, length, codes, Option, Some, None, option_map, option_and_then}
-use Rattle.std.specs.Str.{bytes_eq}
-use Rattle.table_text.specs.Bytes.{open_paren, close_paren, times_sign, plus_sign, colon, semicolon, open_brace, close_brace}
+use Rattle.std.specs.Prelude.{ℕ, Bool, true, false, ◌&&◌, ◌==◌, if◌then◌else◌, List, [], ◌∷◌, ◌++◌, length, codes, Option, Some, None, option_map, option_and_then}
+use Rattle.table_text.specs.Bytes.{open_paren, close_paren, times_sign, plus_sign, equals_sign, colon, semicolon, open_brace, close_brace}
 use Rattle.table_text.specs.Lexing.{Token, name, reserved, number, mark, wrong}
-use Rattle.table_text.specs.Grammar.{sum_of, product_of, type_words}
+use Rattle.table_text.specs.Grammar.{sum_of, product_of}
 use Rattle.table_text.specs.Faults.{is_mark_of}
+use Rattle.table_text.specs.TokenClasses.{name_of, is_word, level_of, number_in, log_values_of}
+use Rattle.table_text.specs.Drafts.{no_parts, is_done, draft_at, draft_step}
+use Rattle.table_text.specs.Forms.{form_word, item_slots, item_from}
 use Rattle.table_text.specs.declared.expr.Expr.{Expr}
 use Rattle.table_text.specs.declared.expr.Expr.TheVariants as expr
 use Rattle.table_text.specs.declared.decl.Item.{Item}
@@ -14,58 +16,15 @@ use Rattle.table_text.specs.declared.decl.Decl.{Decl}
 use Rattle.table_text.specs.declared.decl.Decl.TheVariants as decl
 use Rattle.table_text.specs.declared.formula.Frame.{Frame}
 use Rattle.table_text.specs.declared.formula.Formula.{Formula}
+use Rattle.table_text.specs.declared.draft.Draft.{Draft}
+use Rattle.table_text.specs.declared.forms.ItemForm.{ItemForm}
+use Rattle.table_text.specs.declared.forms.ItemForm.TheVariants.{Virtual}
 use Rattle.table_text.specs.declared.body.ItemStage.{ItemStage}
-use Rattle.table_text.specs.declared.body.ItemStage.TheVariants.{Start, ColumnName, ColumnColon, ColumnType, ColumnEnd, ColumnValues, ColumnLast, ZeroName, ZeroColon, Operand, Operator}
+use Rattle.table_text.specs.declared.body.ItemStage.TheVariants.{Start, ColumnName, ColumnColon, ColumnType, ColumnEnd, ColumnValues, ColumnLast, VirtualName, VirtualEquals, VirtualForm, Drafting, ZeroName, ZeroColon, Operand, Operator}
 use Rattle.table_text.specs.declared.body.Body.{Body}
 use Rattle.table_text.specs.declared.state.Stage.{Stage}
 use Rattle.table_text.specs.declared.state.Stage.TheVariants as stage
 use Rattle.table_text.specs.declared.state.State.{State}
-
--- ---- what a token is
-
-abbrev pub name_of : Token → Option (List ℕ)
-name_of (name w) = Some w
-name_of (reserved w) = None
-name_of (number n) = None
-name_of (mark b) = None
-name_of (wrong kind) = None
-
--- whether a token is this reserved word
-abbrev pub is_word : List ℕ → Token → Bool
-is_word word (name w) = false
-is_word word (reserved w) = bytes_eq w word
-is_word word (number n) = false
-is_word word (mark b) = false
-is_word word (wrong kind) = false
-
--- the place of a word among words, from a number on
-abbrev pub place_among : ℕ → List (List ℕ) → List ℕ → Option ℕ
-place_among n [] w = None
-place_among n (word ∷ words) w = if bytes_eq w word then Some n else place_among (n + 1) words w
-
--- the level of a type's word
-abbrev pub level_of : List ℕ → Option ℕ
-level_of w = place_among 0 type_words w
-
-abbrev pub number_in : Token → Option ℕ
-number_in (name w) = None
-number_in (reserved w) = None
-number_in (number n) = Some n
-number_in (mark b) = None
-number_in (wrong kind) = None
-
--- the place of a number among numbers, from a number on
-abbrev pub count_among : ℕ → List ℕ → ℕ → Option ℕ
-count_among n [] k = None
-count_among n (count ∷ counts) k = if k == count then Some n else count_among (n + 1) counts k
-
--- how many values a column may have per row
-abbrev pub value_counts : List ℕ
-value_counts = 1 ∷ 2 ∷ 4 ∷ 8 ∷ 16 ∷ 32 ∷ 64 ∷ 128 ∷ []
-
--- the logarithm of a number of values
-abbrev pub log_values_of : ℕ → Option ℕ
-log_values_of k = count_among 0 value_counts k
 
 -- ---- an expression that is being read
 
@@ -127,10 +86,16 @@ operator_step items n f token =
     else (if is_mark_of close_paren token then option_map (λ g. body_at items (Operator n g)) (closed f)
     else (if is_mark_of semicolon token && (length f.outer == 0) then Some (body_at (items ++ item.Zero n (innermost f) ∷ []) Start) else None)))
 
+-- an item of which something was read: it is done, or it goes on
+abbrev pub settled : List Item → ItemForm → Draft → Option Body
+settled items form d = if is_done d.slots then option_map (λ i. body_at (items ++ i ∷ []) Start) (item_from form d.parts) else Some (body_at items (Drafting form d))
+
 -- what comes next in a table after one token more
 abbrev pub body_step : List Item → ItemStage → Token → Option Body
 body_step items Start token =
-    if is_word (codes "column") token then Some (body_at items ColumnName) else (if is_word (codes "zero") token then Some (body_at items ZeroName) else None)
+    if is_word (codes "column") token then Some (body_at items ColumnName)
+    else (if is_word (codes "virtual") token then Some (body_at items VirtualName)
+    else (if is_word (codes "zero") token then Some (body_at items ZeroName) else None))
 body_step items ColumnName token = option_map (λ w. body_at items (ColumnColon w)) (name_of token)
 body_step items (ColumnColon n) token = if is_mark_of colon token then Some (body_at items (ColumnType n)) else None
 body_step items (ColumnType n) token = option_map (λ level. body_at items (ColumnEnd n level)) (option_and_then level_of (name_of token))
@@ -138,6 +103,10 @@ body_step items (ColumnEnd n level) token =
     if is_mark_of semicolon token then Some (body_at (items ++ item.Column n level 0 ∷ []) Start) else (if is_word (codes "x") token then Some (body_at items (ColumnValues n level)) else None)
 body_step items (ColumnValues n level) token = option_map (λ v. body_at items (ColumnLast n level v)) (option_and_then log_values_of (number_in token))
 body_step items (ColumnLast n level v) token = if is_mark_of semicolon token then Some (body_at (items ++ item.Column n level v ∷ []) Start) else None
+body_step items VirtualName token = option_map (λ w. body_at items (VirtualEquals w)) (name_of token)
+body_step items (VirtualEquals n) token = if is_mark_of equals_sign token then Some (body_at items (VirtualForm n)) else None
+body_step items (VirtualForm n) token = option_map (λ word. body_at items (Drafting (Virtual n word) (draft_at (item_slots (Virtual n word)) no_parts))) (form_word token)
+body_step items (Drafting form d) token = option_and_then (settled items form) (draft_step d token)
 body_step items ZeroName token = option_map (λ w. body_at items (ZeroColon w)) (name_of token)
 body_step items (ZeroColon n) token = if is_mark_of colon token then Some (body_at items (Operand n no_formula)) else None
 body_step items (Operand n f) token = option_map (body_at items) (operand_step n f token)
@@ -153,6 +122,10 @@ is_start (ColumnType n) = false
 is_start (ColumnEnd n level) = false
 is_start (ColumnValues n level) = false
 is_start (ColumnLast n level v) = false
+is_start VirtualName = false
+is_start (VirtualEquals n) = false
+is_start (VirtualForm n) = false
+is_start (Drafting form d) = false
 is_start ZeroName = false
 is_start (ZeroColon n) = false
 is_start (Operand n f) = false

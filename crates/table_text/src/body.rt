@@ -1,12 +1,14 @@
 //! The items of a table that is being read.
 
 ghost use Rattle.std.specs.Prelude.{◌≡◌};
-ghost use Rattle.table_text.specs.Machine.{is_start, operand_step, operator_step, body_step};
+ghost use Rattle.table_text.specs.Machine.{is_start, operand_step, operator_step, settled, body_step};
 ghost use Rattle.table_text.specs.TokenMeaning.{shown};
 ghost use Rattle.table_text.specs.StepMeaning.{IsStepTo};
 
 use crate::decl::{Item, TableItems};
+use crate::draft::Draft;
 use crate::expr::{Expr, Name};
+use crate::forms::{ItemForm, begun_item, form_word, item_from};
 use crate::formula::Formula;
 use crate::refusal::Refusal;
 use crate::token::{Token, is_mark, is_word, level_of, log_values_of, name_of};
@@ -25,6 +27,10 @@ pub(crate) enum ItemStage {
     ColumnEnd(Name, u32),
     ColumnValues(Name, u32),
     ColumnLast(Name, u32, u32),
+    VirtualName,
+    VirtualEquals(Name),
+    VirtualForm(Name),
+    Drafting(ItemForm, Draft),
     ZeroName,
     ZeroColon(Name),
     Operand(Name, Formula),
@@ -109,11 +115,31 @@ fn start_step(items: TableItems, token: Token<'_>) -> Result<Body, Refusal>
     if is_word(token, b"column") {
         let stage = ItemStage::ColumnName;
         Ok(Body { items, stage })
+    } else if is_word(token, b"virtual") {
+        let stage = ItemStage::VirtualName;
+        Ok(Body { items, stage })
     } else if is_word(token, b"zero") {
         let stage = ItemStage::ZeroName;
         Ok(Body { items, stage })
     } else {
         Err(Refusal::Unexpected)
+    }
+}
+
+/// Where something was read of an item, which is done or goes on.
+fn settled(mut items: TableItems, form: ItemForm, draft: Draft) -> Result<Body, Refusal>
+    ensures { IsStepTo result (settled items form draft) }
+{
+    if draft.slots.is_empty() {
+        let Some(item) = item_from(form, draft.parts) else {
+            return Err(Refusal::Unexpected);
+        };
+        items.push(item)?;
+        let stage = ItemStage::Start;
+        Ok(Body { items, stage })
+    } else {
+        let stage = ItemStage::Drafting(form, draft);
+        Ok(Body { items, stage })
     }
 }
 
@@ -162,6 +188,24 @@ pub(crate) fn body_step(alloc: Global, body: Body, token: Token<'_>) -> Result<B
             let stage = ItemStage::Start;
             Ok(Body { items, stage })
         }
+        ItemStage::VirtualName => {
+            let stage = ItemStage::VirtualEquals(name_of(alloc, token)?);
+            Ok(Body { items, stage })
+        }
+        ItemStage::VirtualEquals(name) if is_mark(token, b'=') => {
+            let stage = ItemStage::VirtualForm(name);
+            Ok(Body { items, stage })
+        }
+        ItemStage::VirtualForm(name) => {
+            let Some(word) = form_word(token) else {
+                return Err(Refusal::Unexpected);
+            };
+            let form = ItemForm::Virtual(name, word);
+            let draft = begun_item(alloc, &form)?;
+            let stage = ItemStage::Drafting(form, draft);
+            Ok(Body { items, stage })
+        }
+        ItemStage::Drafting(form, draft) => settled(items, form, draft.step(alloc, token)?),
         ItemStage::ZeroName => {
             let stage = ItemStage::ZeroColon(name_of(alloc, token)?);
             Ok(Body { items, stage })

@@ -4,8 +4,10 @@
 mod body;
 mod byte_classes;
 pub mod decl;
+mod draft;
 pub mod expr;
 pub mod fault;
+mod forms;
 mod formula;
 mod lexer;
 pub mod limits;
@@ -13,6 +15,7 @@ mod number;
 mod progress;
 pub mod read;
 mod refusal;
+mod slots;
 mod state;
 pub mod tables;
 mod token;

@@ -4,7 +4,7 @@ ghost use Rattle.std.specs.Prelude.{◌≡◌, option_and_then};
 ghost use Rattle.std.specs.List.{list_any};
 ghost use Rattle.std.specs.Str.{bytes_eq};
 ghost use Rattle.table_text.specs.Faults.{is_mark_of, begins_declaration, own_fault, unbuilt_words};
-ghost use Rattle.table_text.specs.Machine.{is_word, level_of, log_values_of, name_of, number_in};
+ghost use Rattle.table_text.specs.TokenClasses.{is_word, level_of, log_values_of, name_of, number_in};
 ghost use Rattle.table_text.specs.TokenMeaning.{shown};
 ghost use Rattle.table_text.specs.StepMeaning.{IsStepTo};
 
@@ -52,6 +52,7 @@ pub(crate) fn begins_declaration(token: Token<'_>) -> bool
         Token::Reserved(word) => {
             word == b"table".as_slice()
                 || word == b"column".as_slice()
+                || word == b"virtual".as_slice()
                 || word == b"zero".as_slice()
         }
         _ => false,
@@ -74,7 +75,6 @@ fn is_unbuilt(word: &[u8]) -> bool
 {
     word == b"channel".as_slice()
         || word == b"boundary".as_slice()
-        || word == b"virtual".as_slice()
         || word == b"push".as_slice()
         || word == b"pull".as_slice()
 }
@@ -85,6 +85,16 @@ pub(crate) fn name_of(alloc: Global, token: Token<'_>) -> Result<Name, Refusal>
 {
     match token {
         Token::Name(word) => Ok(Items::from_slice(alloc, word)?),
+        _ => Err(Refusal::Unexpected),
+    }
+}
+
+/// A number.
+pub(crate) fn number_of(token: Token<'_>) -> Result<u128, Refusal>
+    ensures { IsStepTo result (number_in (shown token.entry)) }
+{
+    match token {
+        Token::Number(number) => Ok(number),
         _ => Err(Refusal::Unexpected),
     }
 }

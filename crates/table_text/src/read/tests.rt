@@ -87,7 +87,7 @@ fn declarations(rt: HostRuntime) -> Result<(), Fail> {
     Ok(())
 }
 
-static FAULTS: [(&str, u32, TextKind); 41] = [
+static FAULTS: [(&str, u32, TextKind); 66] = [
     // What the grammar asks for isn't there.
     (
         "table t { column a : b1 zero z : a*a + a; }",
@@ -113,6 +113,116 @@ static FAULTS: [(&str, u32, TextKind); 41] = [
     ("table t { zero z : a = a; }", 21, TextKind::Unexpected),
     ("table t { zero z : ; }", 19, TextKind::Unexpected),
     ("table t { } }", 12, TextKind::Unexpected),
+    // Virtual columns.
+    (
+        "table t { virtual : pack(a, 1); }",
+        18,
+        TextKind::Unexpected,
+    ),
+    (
+        "table t { virtual x = pack(a, 1); }",
+        18,
+        TextKind::Unexpected,
+    ),
+    (
+        "table t { virtual v : pack(a, 1); }",
+        20,
+        TextKind::Unexpected,
+    ),
+    ("table t { virtual v = sum(a); }", 22, TextKind::Unexpected),
+    ("table t { virtual v = pull; }", 22, TextKind::NotBuilt),
+    ("table t { virtual v = shl a; }", 26, TextKind::Unexpected),
+    (
+        "table t { virtual v = shl(5, a, 1); }",
+        26,
+        TextKind::Unexpected,
+    ),
+    (
+        "table t { virtual v = shl(a; 5, 1); }",
+        27,
+        TextKind::Unexpected,
+    ),
+    (
+        "table t { virtual v = shr(a, b, 1); }",
+        29,
+        TextKind::Unexpected,
+    ),
+    (
+        "table t { virtual v = rol(a, 5); }",
+        30,
+        TextKind::Unexpected,
+    ),
+    (
+        "table t { virtual v = project(a, 5, 1, 2); }",
+        37,
+        TextKind::Unexpected,
+    ),
+    ("table t { virtual v = pack(a); }", 28, TextKind::Unexpected),
+    (
+        "table t { virtual v = pack(a, 1, 1); }",
+        31,
+        TextKind::Unexpected,
+    ),
+    (
+        "table t { virtual v = pack(a, 1) }",
+        33,
+        TextKind::Unexpected,
+    ),
+    (
+        "table t { virtual v = linear(); }",
+        29,
+        TextKind::Unexpected,
+    ),
+    (
+        "table t { virtual v = linear(3); }",
+        30,
+        TextKind::Unexpected,
+    ),
+    (
+        "table t { virtual v = linear(3 + ); }",
+        33,
+        TextKind::Unexpected,
+    ),
+    (
+        "table t { virtual v = linear(3 + 4 + a); }",
+        35,
+        TextKind::Unexpected,
+    ),
+    (
+        "table t { virtual v = linear(a * 3); }",
+        31,
+        TextKind::Unexpected,
+    ),
+    (
+        "table t { virtual v = linear(3 * 4); }",
+        33,
+        TextKind::Unexpected,
+    ),
+    (
+        "table t { virtual v = linear(a + 3 * 4); }",
+        37,
+        TextKind::Unexpected,
+    ),
+    (
+        "table t { virtual v = linear(a + 3); }",
+        34,
+        TextKind::Unexpected,
+    ),
+    (
+        "table t { virtual v = linear((a)); }",
+        29,
+        TextKind::Unexpected,
+    ),
+    (
+        "table t { virtual v = linear(a, b); }",
+        30,
+        TextKind::Unexpected,
+    ),
+    (
+        "table t { virtual v = linear(a) + b; }",
+        32,
+        TextKind::Unexpected,
+    ),
     // The text ends too early.
     ("table", 5, TextKind::Unexpected),
     ("table t { column a : b1;\n", 25, TextKind::Unexpected),
@@ -129,7 +239,7 @@ static FAULTS: [(&str, u32, TextKind); 41] = [
     ("table t { pull c(a); }", 10, TextKind::NotBuilt),
     ("table push { }", 6, TextKind::NotBuilt),
     ("boundary", 0, TextKind::NotBuilt),
-    ("table t virtual", 8, TextKind::NotBuilt),
+    ("table t virtual", 8, TextKind::Unexpected),
     // Tokens are as long as possible.
     ("table t { zero z : 0x; }", 20, TextKind::Unexpected),
     ("table t { zero z : 12ab; }", 21, TextKind::Unexpected),
@@ -198,6 +308,69 @@ fn readings(rt: HostRuntime) -> Result<(), Fail> {
     for &(text, want) in &READINGS {
         let tables = answer(&rt, text.as_bytes())?;
         let shown = format!(in rt.alloc(); "{tables:?}")?;
+        assert_eq!(rt; shown.as_str(), want, "{text}");
+    }
+    Ok(())
+}
+
+static FORMS: [(&str, &str); 10] = [
+    (
+        "shl(a, 5, 1)",
+        "Shl { column: Items { items: [97] }, block: 5, offset: 1 }",
+    ),
+    (
+        "shr(a,0x5,01)",
+        "Shr { column: Items { items: [97] }, block: 5, offset: 1 }",
+    ),
+    (
+        "rol(b32, 0, 340282366920938463463374607431768211455)",
+        "Rol { column: Items { items: [98, 51, 50] }, block: 0, offset: 340282366920938463463374607431768211455 }",
+    ),
+    (
+        "project(a, 5, 31)",
+        "Project { column: Items { items: [97] }, log: 5, index: 31 }",
+    ),
+    (
+        "pack(a, 5)",
+        "Pack { column: Items { items: [97] }, log: 5 }",
+    ),
+    (
+        "linear(a)",
+        "Linear { constant: 0, terms: Items { items: [Term { coefficient: 1, column: Items { items: [97] } }] } }",
+    ),
+    (
+        "linear(3 + a)",
+        "Linear { constant: 3, terms: Items { items: [Term { coefficient: 1, column: Items { items: [97] } }] } }",
+    ),
+    (
+        "linear(3 * a)",
+        "Linear { constant: 0, terms: Items { items: [Term { coefficient: 3, column: Items { items: [97] } }] } }",
+    ),
+    (
+        "linear(2 + 3 * a + b + 0 * c)",
+        "Linear { constant: 2, terms: Items { items: [Term { coefficient: 3, column: Items { items: [97] } }, Term { coefficient: 1, column: Items { items: [98] } }, Term { coefficient: 0, column: Items { items: [99] } }] } }",
+    ),
+    (
+        "linear(a + a)",
+        "Linear { constant: 0, terms: Items { items: [Term { coefficient: 1, column: Items { items: [97] } }, Term { coefficient: 1, column: Items { items: [97] } }] } }",
+    ),
+];
+
+#[test]
+fn forms(rt: HostRuntime) -> Result<(), Fail> {
+    for &(text, want) in &FORMS {
+        let mut file = Vec::from_slice(rt.alloc(), b"table t { virtual v = ")?;
+        file.extend_from_slice(text.as_bytes())?;
+        file.extend_from_slice(b"; }")?;
+        let tables = answer(&rt, &file)?;
+        let [Decl::Table { name: _, items }] = tables.decls() else {
+            panic!(rt; "not one table")
+        };
+        let [Item::Virtual { name, form }] = items.as_slice() else {
+            panic!(rt; "not one virtual column")
+        };
+        assert_eq!(rt; name.as_slice(), b"v".as_slice());
+        let shown = format!(in rt.alloc(); "{form:?}")?;
         assert_eq!(rt; shown.as_str(), want, "{text}");
     }
     Ok(())
