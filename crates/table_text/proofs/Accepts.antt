@@ -4,18 +4,22 @@ use Rattle.std.proofs.lemmas.List.{append-nil}
 use Rattle.std.proofs.lemmas.Option.{none-some, same_Some}
 use Rattle.std.specs.Prelude.{map, option_map, option_and_then}
 use Rattle.std.specs.List.{flat_map}
-use Rattle.table_text.specs.Bytes.{close_paren, times_sign, plus_sign, semicolon, close_brace}
-use Rattle.table_text.specs.Lexing.{Token, name, number, mark}
-use Rattle.table_text.specs.Grammar.{Sum, first_term, plus, Product, first_factor, times, Atom, constant, column, parens, ItemTree, one_value, several_values, column_item, virtual_item, TermTree, plain_term, times_term, FormTree, shl_form, shr_form, rol_form, project_form, pack_form, linear_form, zero_item, term_tokens, more_term_tokens, constant_tokens, form_of, TableTree, FileTree, sum_tokens, product_tokens, atom_tokens, atom_expr, terms, factors, sum_of, product_of, type_word, item_tokens, table_tokens, file_tokens, item_of, table_of}
+use Rattle.table_text.specs.Bytes.{open_paren, close_paren, times_sign, plus_sign, semicolon, close_brace}
+use Rattle.table_text.specs.Lexing.{Token, name, reserved, number, mark}
+use Rattle.table_text.specs.Grammar.{Sum, first_term, plus, Product, first_factor, times, Atom, constant, column, parens, ItemTree, one_value, several_values, column_item, virtual_item, TermTree, plain_term, times_term, FormTree, shl_form, shr_form, rol_form, project_form, pack_form, linear_form, zero_item, term_tokens, more_term_tokens, constant_tokens, form_of, flush_item, DeclTree, channel_tree, boundary_tree, table_tree, side_word, more_name_tokens, more_number_tokens, selector_tokens, FileTree, sum_tokens, product_tokens, atom_tokens, atom_expr, terms, factors, sum_of, product_of, type_word, item_tokens, decl_tokens, file_tokens, item_of, decl_of}
 use Rattle.table_text.specs.TokenClasses.{level_of, log_values_of}
-use Rattle.table_text.specs.Drafts.{no_parts, draft_at}
-use Rattle.table_text.specs.Forms.{linear_slots}
+use Rattle.table_text.specs.Drafts.{with_name, with_column, with_number, no_parts, draft_at}
+use Rattle.table_text.specs.Forms.{linear_slots, flush_slots, boundary_slots}
 use Rattle.table_text.specs.declared.slots.Slot.{Slot}
-use Rattle.table_text.specs.declared.slots.Slot.TheVariants.{Mark, FirstSummand, Summand, TermEnd}
+use Rattle.table_text.specs.declared.slots.Slot.TheVariants.{Mark, Name, Value, ValueEnd, Column, ColumnEnd, Selector, FirstSummand, Summand, TermEnd}
 use Rattle.table_text.specs.declared.draft.Parts.{Parts}
 use Rattle.table_text.specs.declared.forms.FormWord.{FormWord}
 use Rattle.table_text.specs.declared.forms.FormWord.TheVariants.{Linear}
-use Rattle.table_text.specs.declared.forms.ItemForm.TheVariants.{Virtual}
+use Rattle.table_text.specs.declared.forms.ItemForm.TheVariants.{Virtual, Flush}
+use Rattle.table_text.specs.declared.forms.DeclForm.{DeclForm}
+use Rattle.table_text.specs.declared.forms.DeclForm.TheVariants.{Boundary}
+use Rattle.table_text.specs.declared.decl.Side.{Side}
+use Rattle.table_text.specs.declared.decl.Side.TheVariants.{Push, Pull}
 use Rattle.table_text.specs.Machine.{back_in, innermost, body_at, state_at, step, run, start}
 use Rattle.table_text.specs.declared.expr.Expr.{Expr}
 use Rattle.table_text.specs.declared.decl.Item.{Item}
@@ -28,8 +32,8 @@ use Rattle.table_text.specs.declared.body.ItemStage.TheVariants as its
 use Rattle.table_text.specs.declared.state.Stage.TheVariants as stage
 use Rattle.table_text.specs.declared.state.State.{State}
 use Rattle.table_text.proofs.Stacks.{split_last-append}
-use Rattle.table_text.proofs.Fillings.{read_term, read_terms, read_constant}
-use Rattle.table_text.proofs.FormTrees.{linear_read}
+use Rattle.table_text.proofs.Fillings.{read_term, read_terms, read_constant, read_columns, read_numbers}
+use Rattle.table_text.proofs.FormTrees.{linear_read, flush_read, boundary_read}
 
 -- from s the tokens lead to t, whatever comes behind them
 pub record Leads (s : State) (tokens : List Token) (t : State) : Type 0 where
@@ -200,6 +204,55 @@ form_read ds t items w (linear_form k s ts) =
     (first _ (drafting ds t items w Linear linear_end (read_terms ts (read_term s (read_constant k no_parts)))) _ _ _ refl
     (one _ _ _ (linear_last ds t items w k s ts))))))))))
 
+-- ---- flushes
+
+abbrev flushing : List Decl → List ℕ → List Item → Side → List Slot → Parts → State
+flushing ds t items side slots p = table_at ds t items (its.Drafting (Flush side) (draft_at slots p))
+
+-- the end of a flush
+abbrev flush_end : List Slot
+flush_end = Selector ∷ []
+
+columns_read : (ds : List Decl) (t : List ℕ) (items : List Item) (side : Side) (p : Parts) (ws : List (List ℕ))
+    → Leads (flushing ds t items side (ColumnEnd ∷ flush_end) p) (more_name_tokens ws) (flushing ds t items side (ColumnEnd ∷ flush_end) (read_columns ws p))
+columns_read ds t items side p [] = nothing _
+columns_read ds t items side p (w ∷ ws) = first _ (flushing ds t items side (Column ∷ flush_end) p) _ _ _ refl
+    (first _ (flushing ds t items side (ColumnEnd ∷ flush_end) (with_column p w)) _ _ _ refl (columns_read ds t items side (with_column p w) ws))
+
+side_read : (ds : List Decl) (t : List ℕ) (items : List Item) (side : Side) → step (table_at ds t items its.Start) (reserved (side_word side)) ≡ Some (flushing ds t items side flush_slots no_parts)
+side_read ds t items Push = refl
+side_read ds t items Pull = refl
+
+-- an item that was read last
+abbrev with_last : List Decl → List ℕ → List Item → Option Item → Option State
+with_last ds t items o = option_map (λ b. state_at ds (stage.Table t b)) (option_map (λ i. body_at (items ++ i ∷ []) its.Start) o)
+
+selector_read : (ds : List Decl) (t : List ℕ) (items : List Item) (side : Side) (c w : List ℕ) (ws : List (List ℕ)) (s : Option (List ℕ))
+    → Leads (flushing ds t items side flush_end (read_columns ws (with_column (with_name no_parts c) w))) (selector_tokens s ++ mark semicolon ∷ []) (table_at ds t (items ++ item_of (flush_item side c w ws s) ∷ []) its.Start)
+selector_read ds t items side c w ws None = one _ _ _ (ap (with_last ds t items) (flush_read side c w ws None))
+selector_read ds t items side c w ws (Some s) =
+    let p : Parts = read_columns ws (with_column (with_name no_parts c) w) in
+    first _ (flushing ds t items side (Name ∷ Mark semicolon ∷ []) p) _ _ _ refl
+    (first _ (flushing ds t items side (Mark semicolon ∷ []) (with_name p s)) _ _ _ refl
+    (one _ _ _ (ap (with_last ds t items) (flush_read side c w ws (Some s)))))
+
+flush_item_read : (ds : List Decl) (t : List ℕ) (items : List Item) (side : Side) (c w : List ℕ) (ws : List (List ℕ)) (s : Option (List ℕ))
+    → Leads (table_at ds t items its.Start) (item_tokens (flush_item side c w ws s)) (table_at ds t (items ++ item_of (flush_item side c w ws s) ∷ []) its.Start)
+flush_item_read ds t items side c w ws s =
+    let p : Parts = with_column (with_name no_parts c) w in
+    subst (λ tokens. Leads (table_at ds t items its.Start) tokens (table_at ds t (items ++ item_of (flush_item side c w ws s) ∷ []) its.Start)) (flush_nested side c w ws s)
+    (first _ (flushing ds t items side flush_slots no_parts) _ _ _ (side_read ds t items side)
+    (first _ (flushing ds t items side (Mark open_paren ∷ Column ∷ flush_end) (with_name no_parts c)) _ _ _ refl
+    (first _ (flushing ds t items side (Column ∷ flush_end) (with_name no_parts c)) _ _ _ refl
+    (first _ (flushing ds t items side (ColumnEnd ∷ flush_end) p) _ _ _ refl
+    (joined _ _ _ (more_name_tokens ws) (mark close_paren ∷ selector_tokens s ++ mark semicolon ∷ []) (columns_read ds t items side p ws)
+    (first _ (flushing ds t items side flush_end (read_columns ws p)) _ _ _ refl
+    (selector_read ds t items side c w ws s)))))))
+  where
+    flush_nested : (side : Side) (c w : List ℕ) (ws : List (List ℕ)) (s : Option (List ℕ))
+        → reserved (side_word side) ∷ name c ∷ mark open_paren ∷ name w ∷ (more_name_tokens ws ++ (mark close_paren ∷ selector_tokens s ++ mark semicolon ∷ [])) ≡ item_tokens (flush_item side c w ws s)
+    flush_nested side c w ws s = simp append_assoc refl
+
 item_read : (ds : List Decl) (t : List ℕ) (items : List Item) (i : ItemTree) → Leads (table_at ds t items its.Start) (item_tokens i) (table_at ds t (items ++ item_of i ∷ []) its.Start)
 item_read ds t items (column_item w (one_value level h)) =
     first _ (table_at ds t items its.ColumnName) _ _ _ refl
@@ -216,6 +269,7 @@ item_read ds t items (column_item w (several_values level v h k)) =
     (first _ (table_at ds t items (its.ColumnLast w level v)) _ _ _ (values_step ds t items w level v k)
     (one _ _ _ refl))))))
 item_read ds t items (virtual_item w f) = form_read ds t items w f
+item_read ds t items (flush_item side c w ws s) = flush_item_read ds t items side c w ws s
 item_read ds t items (zero_item w s) =
     first _ (table_at ds t items its.ZeroName) _ _ _ refl
     (first _ (table_at ds t items (its.ZeroColon w)) _ _ _ refl
@@ -231,22 +285,53 @@ items_read ds t items (i ∷ is) =
 
 -- ---- tables
 
-table_read : (ds : List Decl) (t : TableTree) → Leads (state_at ds stage.File) (table_tokens t) (state_at (ds ++ table_of t ∷ []) stage.File)
-table_read ds t =
+abbrev declaring : List Decl → DeclForm → List Slot → Parts → State
+declaring ds form slots p = state_at ds (stage.Drafting form (draft_at slots p))
+
+-- the end of a boundary
+abbrev boundary_end : List Slot
+boundary_end = Mark semicolon ∷ []
+
+values_read : (ds : List Decl) (side : Side) (p : Parts) (ns : List ℕ) → Leads (declaring ds (Boundary side) (ValueEnd ∷ boundary_end) p) (more_number_tokens ns) (declaring ds (Boundary side) (ValueEnd ∷ boundary_end) (read_numbers ns p))
+values_read ds side p [] = nothing _
+values_read ds side p (n ∷ ns) = first _ (declaring ds (Boundary side) (Value ∷ boundary_end) p) _ _ _ refl
+    (first _ (declaring ds (Boundary side) (ValueEnd ∷ boundary_end) (with_number p n)) _ _ _ refl (values_read ds side (with_number p n) ns))
+
+boundary_side_read : (ds : List Decl) (side : Side) → step (state_at ds stage.BoundarySide) (reserved (side_word side)) ≡ Some (declaring ds (Boundary side) boundary_slots no_parts)
+boundary_side_read ds Push = refl
+boundary_side_read ds Pull = refl
+
+boundary_last : (ds : List Decl) (side : Side) (c : List ℕ) (n : ℕ) (ns : List ℕ)
+    → step (declaring ds (Boundary side) boundary_end (read_numbers ns (with_number (with_name no_parts c) n))) (mark semicolon) ≡ Some (state_at (ds ++ decl_of (boundary_tree side c n ns) ∷ []) stage.File)
+boundary_last ds side c n ns = ap (λ o. option_map (λ e. state_at (ds ++ e ∷ []) stage.File) o) (boundary_read side c n ns)
+
+decl_read : (ds : List Decl) (d : DeclTree) → Leads (state_at ds stage.File) (decl_tokens d) (state_at (ds ++ decl_of d ∷ []) stage.File)
+decl_read ds (channel_tree w n) = record { on = λ rest. refl }
+decl_read ds (boundary_tree side c n ns) =
+    let p : Parts = with_number (with_name no_parts c) n in
+    first _ (state_at ds stage.BoundarySide) _ _ _ refl
+    (first _ (declaring ds (Boundary side) boundary_slots no_parts) _ _ _ (boundary_side_read ds side)
+    (first _ (declaring ds (Boundary side) (Mark open_paren ∷ Value ∷ boundary_end) (with_name no_parts c)) _ _ _ refl
+    (first _ (declaring ds (Boundary side) (Value ∷ boundary_end) (with_name no_parts c)) _ _ _ refl
+    (first _ (declaring ds (Boundary side) (ValueEnd ∷ boundary_end) p) _ _ _ refl
+    (joined _ _ _ (more_number_tokens ns) (mark close_paren ∷ mark semicolon ∷ []) (values_read ds side p ns)
+    (first _ (declaring ds (Boundary side) boundary_end (read_numbers ns p)) _ _ _ refl
+    (one _ _ _ (boundary_last ds side c n ns))))))))
+decl_read ds (table_tree w items) =
     first _ (state_at ds stage.TableName) _ _ _ refl
-    (first _ (state_at ds (stage.TableBrace t.name)) _ _ _ refl
-    (first _ (table_at ds t.name [] its.Start) _ _ _ refl
-    (joined _ _ _ (flat_map item_tokens t.items) (mark close_brace ∷ []) (items_read ds t.name [] t.items)
+    (first _ (state_at ds (stage.TableBrace w)) _ _ _ refl
+    (first _ (table_at ds w [] its.Start) _ _ _ refl
+    (joined _ _ _ (flat_map item_tokens items) (mark close_brace ∷ []) (items_read ds w [] items)
     (one _ _ _ refl))))
 
-file_read : (ds : List Decl) (f : FileTree) → Leads (state_at ds stage.File) (file_tokens f) (state_at (ds ++ map table_of f) stage.File)
+file_read : (ds : List Decl) (f : FileTree) → Leads (state_at ds stage.File) (file_tokens f) (state_at (ds ++ map decl_of f) stage.File)
 file_read ds [] = subst (λ (es : List Decl). Leads (state_at ds stage.File) [] (state_at es stage.File)) (sym (append-nil ds)) (nothing _)
 file_read ds (t ∷ f) =
-    subst (λ (es : List Decl). Leads (state_at ds stage.File) (table_tokens t ++ file_tokens f) (state_at es stage.File)) (append_assoc ds (table_of t ∷ []) (map table_of f))
-    (joined _ _ _ (table_tokens t) (file_tokens f) (table_read ds t) (file_read (ds ++ table_of t ∷ []) f))
+    subst (λ (es : List Decl). Leads (state_at ds stage.File) (decl_tokens t ++ file_tokens f) (state_at es stage.File)) (append_assoc ds (decl_of t ∷ []) (map decl_of f))
+    (joined _ _ _ (decl_tokens t) (file_tokens f) (decl_read ds t) (file_read (ds ++ decl_of t ∷ []) f))
 
 -- the machine reads each file, and has its declarations then
-pub accepts : (f : FileTree) → run start (file_tokens f) ≡ Some (state_at (map table_of f) stage.File)
+pub accepts : (f : FileTree) → run start (file_tokens f) ≡ Some (state_at (map decl_of f) stage.File)
 accepts f = ap (run start) (sym (append-nil (file_tokens f))) ∙ (file_read [] f).on []
 
 -- ---- prefixes

@@ -4,14 +4,15 @@ use Rattle.std.proofs.lemmas.List.{append-nil}
 use Rattle.std.proofs.lemmas.Grind.{flat_map-append}
 use Rattle.std.specs.Prelude.{codes}
 use Rattle.std.specs.List.{flat_map}
-use Rattle.table_text.specs.Bytes.{close_paren, equals_sign, colon, semicolon, open_brace, close_brace}
+use Rattle.table_text.specs.Bytes.{open_paren, close_paren, equals_sign, colon, semicolon, open_brace, close_brace}
 use Rattle.table_text.specs.Lexing.{Token, name, reserved, number, mark}
-use Rattle.table_text.specs.Grammar.{Sum, first_term, Product, first_factor, constant, parens, ItemTree, one_value, several_values, column_item, virtual_item, pack_form, zero_item, TableTree, FileTree, sum_tokens, product_tokens, type_word, form_tokens, item_tokens, table_tokens, file_tokens, Begins}
+use Rattle.table_text.specs.Grammar.{Sum, first_term, Product, first_factor, constant, parens, ItemTree, one_value, several_values, column_item, virtual_item, pack_form, zero_item, boundary_tree, table_tree, FileTree, sum_tokens, product_tokens, type_word, form_tokens, item_tokens, decl_tokens, file_tokens, Begins}
+use Rattle.table_text.specs.declared.decl.Side.TheVariants.{Push}
 use Rattle.table_text.specs.Drafts.{no_parts, draft_at}
-use Rattle.table_text.specs.Forms.{item_slots}
+use Rattle.table_text.specs.Forms.{item_slots, decl_slots}
 use Rattle.table_text.proofs.Fillings.{can_go_on, unread}
-use Rattle.table_text.proofs.FormTrees.{item_head, item_filled}
-use Rattle.table_text.proofs.Trees.{plus_tokens, times_tokens, with_product, with_atom, FrameTree, outer_tokens, Part, start, column_name, column_colon, column_type, column_end, column_values, column_last, virtual_name, virtual_equals, virtual_form, drafting, zero_name, zero_colon, operand, operator, part_tokens, TablePart, file, table_name, table_brace, table, table_part_tokens, spelled, product_tokens-with_atom, sum_tokens-with_product}
+use Rattle.table_text.proofs.FormTrees.{item_head, item_filled, decl_head, decl_filled}
+use Rattle.table_text.proofs.Trees.{plus_tokens, times_tokens, with_product, with_atom, FrameTree, outer_tokens, Part, start, column_name, column_colon, column_type, column_end, column_values, column_last, virtual_name, virtual_equals, virtual_form, drafting, zero_name, zero_colon, operand, operator, part_tokens, TablePart, file, boundary_side, declaring, table_name, table_brace, table, table_part_tokens, spelled, product_tokens-with_atom, sum_tokens-with_product}
 
 -- a sum that begins with these tokens
 pub record SumFrom (tokens : List Token) : Type 0 where
@@ -69,12 +70,9 @@ pub record TablesFrom (tokens : List Token) : Type 0 where
   pub more : List Token
   pub is : file_tokens tables ≡ tokens ++ more
 
-abbrev empty_table : List ℕ → TableTree
-empty_table w = record { name = w; items = [] }
-
 table_from : (w : List ℕ) (items : List ItemTree) (tokens : List Token) → ItemsFrom tokens → TablesFrom (reserved (codes "table") ∷ name w ∷ mark open_brace ∷ (flat_map item_tokens items ++ tokens))
 table_from w items tokens r = record {
-  tables = record { name = w; items = items ++ r.items } ∷ [];
+  tables = table_tree w (items ++ r.items) ∷ [];
   more = r.more ++ mark close_brace ∷ [];
   is = append-nil _ ∙ ap (λ ts. reserved (codes "table") ∷ name w ∷ mark open_brace ∷ ts)
       (ap (λ ts. ts ++ mark close_brace ∷ []) (flat_map-append item_tokens items r.items ∙ ap (λ ts. flat_map item_tokens items ++ ts) r.is) ∙ simp append_assoc refl);
@@ -82,12 +80,21 @@ table_from w items tokens r = record {
 
 complete_table : (part : TablePart) → TablesFrom (table_part_tokens part)
 complete_table file = record { tables = []; more = []; is = refl }
-complete_table table_name = record { tables = empty_table [] ∷ []; more = name [] ∷ mark open_brace ∷ mark close_brace ∷ []; is = refl }
-complete_table (table_brace w) = record { tables = empty_table w ∷ []; more = mark open_brace ∷ mark close_brace ∷ []; is = refl }
+complete_table boundary_side = record {
+  tables = boundary_tree Push [] 0 [] ∷ [];
+  more = reserved (codes "push") ∷ name [] ∷ mark open_paren ∷ number 0 ∷ mark close_paren ∷ mark semicolon ∷ [];
+  is = refl;
+}
+complete_table (declaring form tokens d h) =
+    let on = can_go_on d in
+    let e = decl_filled form (tokens ++ on.tokens) on.parts (unread tokens (draft_at (decl_slots form) no_parts) d on.tokens on.parts h on.fills) in
+    record { tables = e.tree ∷ []; more = on.tokens; is = append-nil _ ∙ e.spells ∙ sym (append_assoc (decl_head form) tokens on.tokens) }
+complete_table table_name = record { tables = table_tree [] [] ∷ []; more = name [] ∷ mark open_brace ∷ mark close_brace ∷ []; is = refl }
+complete_table (table_brace w) = record { tables = table_tree w [] ∷ []; more = mark open_brace ∷ mark close_brace ∷ []; is = refl }
 complete_table (table w items part) = table_from w items (part_tokens part) (complete_part part)
 
 -- what is spelled begins a file
 pub complete : (tables : FileTree) (part : TablePart) → Begins (spelled tables part)
 complete tables part =
     let r = complete_table part in
-    (tables ++ r.tables, r.more, flat_map-append table_tokens tables r.tables ∙ ap (λ ts. file_tokens tables ++ ts) r.is ∙ sym (append_assoc (file_tokens tables) (table_part_tokens part) r.more))
+    (tables ++ r.tables, r.more, flat_map-append decl_tokens tables r.tables ∙ ap (λ ts. file_tokens tables ++ ts) r.is ∙ sym (append_assoc (file_tokens tables) (table_part_tokens part) r.more))

@@ -1,18 +1,18 @@
 -- What may stand at places, and that a draft has just read something of it.
 use Rattle.std.proofs.Common.{◌≡◌, ℕ, ◌⊎◌, inl, inr, List, [], ◌∷◌, ◌++◌, Option, Some, None, refl, sym, ◌∙◌, ap, subst, append_assoc, true}
-use Rattle.std.proofs.lemmas.Option.{none-some, same_Some}
-use Rattle.std.specs.Prelude.{cond, option_map, option_and_then}
-use Rattle.table_text.specs.Bytes.{close_paren, times_sign, plus_sign}
+use Rattle.std.proofs.lemmas.Option.{cond_some, none-some, same_Some}
+use Rattle.std.specs.Prelude.{cond, codes, option_map, option_and_then}
+use Rattle.table_text.specs.Bytes.{close_paren, times_sign, plus_sign, comma, semicolon}
 use Rattle.table_text.specs.Lexing.{Token, name, reserved, number, mark, wrong}
 use Rattle.table_text.specs.Faults.{is_mark_of}
-use Rattle.table_text.specs.TokenClasses.{name_of, number_in}
-use Rattle.table_text.specs.Grammar.{TermTree, plain_term, times_term, term_tokens, more_term_tokens, constant_tokens}
-use Rattle.table_text.specs.Drafts.{with_name, with_number, with_term, with_held, with_constant, draft_at, summand_step, slots_step, draft_step, is_done}
+use Rattle.table_text.specs.TokenClasses.{name_of, number_in, is_word}
+use Rattle.table_text.specs.Grammar.{TermTree, plain_term, times_term, term_tokens, more_term_tokens, constant_tokens, more_name_tokens, more_number_tokens, selector_tokens}
+use Rattle.table_text.specs.Drafts.{with_name, with_column, with_number, with_term, with_held, with_constant, draft_at, summand_step, slot_step, slots_step, draft_step, is_done}
 use Rattle.table_text.specs.declared.slots.Slot.{Slot}
-use Rattle.table_text.specs.declared.slots.Slot.TheVariants.{Mark, Name, Number, FirstSummand, FirstSign, Summand, TimesSign, TermColumn, TermEnd}
+use Rattle.table_text.specs.declared.slots.Slot.TheVariants.{Mark, Name, Number, Value, ValueEnd, Column, ColumnEnd, Selector, FirstSummand, FirstSign, Summand, TimesSign, TermColumn, TermEnd}
 use Rattle.table_text.specs.declared.draft.Parts.{Parts}
 use Rattle.table_text.specs.declared.draft.Draft.{Draft}
-use Rattle.table_text.proofs.FromTests.{marked, mark_from, name_from, number_from, chosen, mapped}
+use Rattle.table_text.proofs.FromTests.{marked, mark_from, name_from, number_from, word_from, chosen, mapped}
 
 -- ---- what may stand at places
 
@@ -21,6 +21,11 @@ Filling [] = Unit {0}
 Filling (Mark b ∷ slots) = Filling slots
 Filling (Name ∷ slots) = List ℕ × Filling slots
 Filling (Number ∷ slots) = ℕ × Filling slots
+Filling (Value ∷ slots) = ℕ × List ℕ × Filling slots
+Filling (ValueEnd ∷ slots) = List ℕ × Filling slots
+Filling (Column ∷ slots) = List ℕ × List (List ℕ) × Filling slots
+Filling (ColumnEnd ∷ slots) = List (List ℕ) × Filling slots
+Filling (Selector ∷ slots) = Option (List ℕ) × Filling slots
 Filling (FirstSummand ∷ slots) = Option ℕ × TermTree × List TermTree × Filling slots
 Filling (FirstSign ∷ slots) = (TermTree ⊎ List ℕ) × List TermTree × Filling slots
 Filling (Summand ∷ slots) = TermTree × List TermTree × Filling slots
@@ -42,6 +47,11 @@ filled_tokens [] f = []
 filled_tokens (Mark b ∷ slots) f = mark b ∷ filled_tokens slots f
 filled_tokens (Name ∷ slots) f = name f.0 ∷ filled_tokens slots f.1
 filled_tokens (Number ∷ slots) f = number f.0 ∷ filled_tokens slots f.1
+filled_tokens (Value ∷ slots) f = number f.0 ∷ (more_number_tokens f.1 ++ mark close_paren ∷ filled_tokens slots f.2)
+filled_tokens (ValueEnd ∷ slots) f = more_number_tokens f.0 ++ mark close_paren ∷ filled_tokens slots f.1
+filled_tokens (Column ∷ slots) f = name f.0 ∷ (more_name_tokens f.1 ++ mark close_paren ∷ filled_tokens slots f.2)
+filled_tokens (ColumnEnd ∷ slots) f = more_name_tokens f.0 ++ mark close_paren ∷ filled_tokens slots f.1
+filled_tokens (Selector ∷ slots) f = selector_tokens f.0 ++ mark semicolon ∷ filled_tokens slots f.1
 filled_tokens (FirstSummand ∷ slots) f = constant_tokens f.0 ++ (term_tokens f.1 ++ terms_end f.2 (filled_tokens slots f.3))
 filled_tokens (FirstSign ∷ slots) f = sign_tokens f.0 ++ terms_end f.1 (filled_tokens slots f.2)
 filled_tokens (Summand ∷ slots) f = term_tokens f.0 ++ terms_end f.1 (filled_tokens slots f.2)
@@ -63,6 +73,18 @@ abbrev pub read_constant : Option ℕ → Parts → Parts
 read_constant None p = p
 read_constant (Some n) p = with_constant (with_held p n)
 
+abbrev pub read_numbers : List ℕ → Parts → Parts
+read_numbers [] p = p
+read_numbers (n ∷ ns) p = read_numbers ns (with_number p n)
+
+abbrev pub read_columns : List (List ℕ) → Parts → Parts
+read_columns [] p = p
+read_columns (w ∷ ws) p = read_columns ws (with_column p w)
+
+abbrev pub read_selector : Option (List ℕ) → Parts → Parts
+read_selector None p = p
+read_selector (Some s) p = with_name p s
+
 abbrev pub read_sign : TermTree ⊎ List ℕ → Parts → Parts
 read_sign (inl t) p = read_term t (with_constant p)
 read_sign (inr c) p = with_term p p.held c
@@ -72,6 +94,11 @@ filled [] f p = p
 filled (Mark b ∷ slots) f p = filled slots f p
 filled (Name ∷ slots) f p = filled slots f.1 (with_name p f.0)
 filled (Number ∷ slots) f p = filled slots f.1 (with_number p f.0)
+filled (Value ∷ slots) f p = filled slots f.2 (read_numbers f.1 (with_number p f.0))
+filled (ValueEnd ∷ slots) f p = filled slots f.1 (read_numbers f.0 p)
+filled (Column ∷ slots) f p = filled slots f.2 (read_columns f.1 (with_column p f.0))
+filled (ColumnEnd ∷ slots) f p = filled slots f.1 (read_columns f.0 p)
+filled (Selector ∷ slots) f p = filled slots f.1 (read_selector f.0 p)
 filled (FirstSummand ∷ slots) f p = filled slots f.3 (read_terms f.2 (read_term f.1 (read_constant f.0 p)))
 filled (FirstSign ∷ slots) f p = filled slots f.2 (read_terms f.1 (read_sign f.0 p))
 filled (Summand ∷ slots) f p = filled slots f.2 (read_terms f.1 (read_term f.0 p))
@@ -85,6 +112,11 @@ some_filling [] = tt
 some_filling (Mark b ∷ slots) = some_filling slots
 some_filling (Name ∷ slots) = ([], some_filling slots)
 some_filling (Number ∷ slots) = (0, some_filling slots)
+some_filling (Value ∷ slots) = (0, [], some_filling slots)
+some_filling (ValueEnd ∷ slots) = ([], some_filling slots)
+some_filling (Column ∷ slots) = ([], [], some_filling slots)
+some_filling (ColumnEnd ∷ slots) = ([], some_filling slots)
+some_filling (Selector ∷ slots) = (None, some_filling slots)
 some_filling (FirstSummand ∷ slots) = (None, plain_term [], [], some_filling slots)
 some_filling (FirstSign ∷ slots) = (inr [], [], some_filling slots)
 some_filling (Summand ∷ slots) = (plain_term [], [], some_filling slots)
@@ -192,12 +224,29 @@ number_back slot slots next p r t d tokens q up spell give e h =
 more_spells : (slots : List Slot) (f : Filling (Summand ∷ slots)) → filled_tokens (TermEnd ∷ slots) (f.0 ∷ f.1, f.2) ≡ mark plus_sign ∷ filled_tokens (Summand ∷ slots) f
 more_spells slots f = ap (λ ts. mark plus_sign ∷ ts) (append_assoc (term_tokens f.0) (more_term_tokens f.1) (mark close_paren ∷ filled_tokens slots f.2))
 
+selector_back : (slots : List Slot) (p : Parts) (t : Token) (d : Draft) (tokens : List Token) (q : Parts)
+    → slot_step Selector slots p t ≡ Some d → Fills d tokens q → Fills (draft_at (Selector ∷ slots) p) (t ∷ tokens) q
+selector_back slots p t d tokens q e h =
+    elim (chosen (is_mark_of semicolon t) _ _ (Some d) e) [
+      | inl k ↦ passed Selector slots slots p p t (mark semicolon) d tokens q (λ f. (None, f)) (λ f. refl) (λ f. refl) (mark_from semicolon t k.0) (same_Some _ _ k.1) h
+      | inr k ↦
+          let m : (is_word (codes "if") t ≡ true) × (draft_at (Name ∷ Mark semicolon ∷ slots) p ≡ d) = cond_some _ _ d k.1 in
+          passed Selector slots (Name ∷ Mark semicolon ∷ slots) p p t (reserved (codes "if")) d tokens q (λ f. (Some f.0, f.1)) (λ f. refl) (λ f. refl) (word_from (codes "if") t m.0) m.1 h
+    ]
+
 -- what a token passed stands before what is read behind it
 pub back : (slots : List Slot) (p : Parts) (t : Token) (d : Draft) (tokens : List Token) (q : Parts) → slots_step slots p t ≡ Some d → Fills d tokens q → Fills (draft_at slots p) (t ∷ tokens) q
 back [] p t d tokens q e h = absurd (none-some d e)
 back (Mark b ∷ slots) p t d tokens q e h = mark_back (Mark b) slots slots p p b t d tokens q (λ f. f) (λ f. refl) (λ f. refl) e h
 back (Name ∷ slots) p t d tokens q e h = name_back Name slots slots p (with_name p) t d tokens q (λ w f. (w, f)) (λ w f. refl) (λ w f. refl) e h
 back (Number ∷ slots) p t d tokens q e h = number_back Number slots slots p (with_number p) t d tokens q (λ n f. (n, f)) (λ n f. refl) (λ n f. refl) e h
+back (Value ∷ slots) p t d tokens q e h = number_back Value slots (ValueEnd ∷ slots) p (with_number p) t d tokens q (λ n f. (n, f.0, f.1)) (λ n f. refl) (λ n f. refl) e h
+back (ValueEnd ∷ slots) p t d tokens q e h = marks_back ValueEnd slots (Value ∷ slots) slots p p p comma close_paren t d tokens q
+    (λ f. (f.0 ∷ f.1, f.2)) (λ f. refl) (λ f. refl) (λ f. ([], f)) (λ f. refl) (λ f. refl) e h
+back (Column ∷ slots) p t d tokens q e h = name_back Column slots (ColumnEnd ∷ slots) p (with_column p) t d tokens q (λ w f. (w, f.0, f.1)) (λ w f. refl) (λ w f. refl) e h
+back (ColumnEnd ∷ slots) p t d tokens q e h = marks_back ColumnEnd slots (Column ∷ slots) slots p p p comma close_paren t d tokens q
+    (λ f. (f.0 ∷ f.1, f.2)) (λ f. refl) (λ f. refl) (λ f. ([], f)) (λ f. refl) (λ f. refl) e h
+back (Selector ∷ slots) p t d tokens q e h = selector_back slots p t d tokens q e h
 back (FirstSummand ∷ slots) p t d tokens q e h = first_back slots p t d tokens q e h
 back (FirstSign ∷ slots) p t d tokens q e h = marks_back FirstSign slots (Summand ∷ slots) (TermColumn ∷ slots) p (with_constant p) p plus_sign times_sign t d tokens q
     (λ f. (inl f.0, f.1, f.2)) (λ f. refl) (λ f. refl) (λ f. (inr f.0, f.1, f.2)) (λ f. refl) (λ f. refl) e h

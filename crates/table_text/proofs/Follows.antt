@@ -13,9 +13,9 @@ use Rattle.table_text.specs.Lexing.{Token, name, reserved, number, mark, wrong}
 use Rattle.table_text.specs.Faults.{is_mark_of}
 use Rattle.table_text.specs.TokenClasses.{name_of, is_word, place_among, level_of, number_in, count_among, value_counts, log_values_of}
 use Rattle.table_text.specs.Drafts.{is_done, no_parts, draft_at, draft_step}
-use Rattle.table_text.specs.Forms.{form_word, item_slots, item_from}
-use Rattle.table_text.specs.Grammar.{Sum, Product, Atom, constant, column, parens, ItemTree, one_value, several_values, column_item, zero_item, TableTree, FileTree, product_tokens, atom_tokens, atom_expr, factors, sum_of, product_of, type_word, type_words, item_tokens, table_tokens, file_tokens, item_of, table_of}
-use Rattle.table_text.specs.Machine.{back_in, innermost, closed, body_at, settled, body_step, operand_step, operator_step, stage_step, step, state_at, is_start}
+use Rattle.table_text.specs.Forms.{form_word, side_of, item_slots, item_from, decl_slots, decl_from}
+use Rattle.table_text.specs.Grammar.{Sum, Product, Atom, constant, column, parens, ItemTree, one_value, several_values, column_item, zero_item, table_tree, FileTree, product_tokens, atom_tokens, atom_expr, factors, sum_of, product_of, type_word, type_words, item_tokens, side_word, decl_tokens, file_tokens, item_of, decl_of}
+use Rattle.table_text.specs.Machine.{back_in, innermost, closed, body_at, settled, begun, decl_settled, body_step, operand_step, operator_step, stage_step, step, state_at, is_start}
 use Rattle.table_text.specs.declared.formula.Formula.{Formula}
 use Rattle.table_text.specs.declared.expr.Expr.{Expr}
 use Rattle.table_text.specs.declared.decl.Item.TheVariants as item
@@ -29,11 +29,14 @@ use Rattle.table_text.specs.declared.draft.Draft.{Draft}
 use Rattle.table_text.specs.declared.forms.FormWord.{FormWord}
 use Rattle.table_text.specs.declared.forms.ItemForm.{ItemForm}
 use Rattle.table_text.specs.declared.forms.ItemForm.TheVariants as form
+use Rattle.table_text.specs.declared.forms.DeclForm.{DeclForm}
+use Rattle.table_text.specs.declared.forms.DeclForm.TheVariants as declared
+use Rattle.table_text.specs.declared.decl.Side.{Side}
 use Rattle.table_text.proofs.Stacks.{split_last-append}
 use Rattle.table_text.proofs.FromTests.{marked, mark_from, name_from, word_from, named, numbered, mapped, chosen, both}
 use Rattle.table_text.proofs.Fillings.{drafted, drafted-one, all_read, unread}
-use Rattle.table_text.proofs.FormTrees.{word_codes, word_from_form, item_head, item_filled}
-use Rattle.table_text.proofs.Trees.{plus_tokens, times_tokens, plus_terms, times_factors, with_product, with_atom, FrameTree, frame_of, outer_tokens, outer_frames, Part, start, column_name, column_colon, column_type, column_end, column_values, column_last, virtual_name, virtual_equals, virtual_form, drafting, zero_name, zero_colon, operand, operator, stage_of, part_tokens, items_tokens, TablePart, file, table_name, table_brace, table, table_stage, table_part_tokens, spelled, state_of, product_tokens-with_atom, sum_tokens-with_product, factors-with_atom, terms-with_product}
+use Rattle.table_text.proofs.FormTrees.{word_codes, word_from_form, side_from, item_head, item_filled, decl_head, decl_filled}
+use Rattle.table_text.proofs.Trees.{plus_tokens, times_tokens, plus_terms, times_factors, with_product, with_atom, FrameTree, frame_of, outer_tokens, outer_frames, Part, start, column_name, column_colon, column_type, column_end, column_values, column_last, virtual_name, virtual_equals, virtual_form, drafting, zero_name, zero_colon, operand, operator, stage_of, part_tokens, items_tokens, TablePart, file, boundary_side, declaring, table_name, table_brace, table, table_stage, table_part_tokens, spelled, state_of, product_tokens-with_atom, sum_tokens-with_product, factors-with_atom, terms-with_product}
 
 -- ---- types' words
 
@@ -220,9 +223,13 @@ start_read items t b e =
       | inl h ↦ stays items start column_name t (reserved (codes "column")) b (word_from (codes "column") t h.0) refl (same_Some _ _ h.1)
       | inr h ↦ elim (chosen (is_word (codes "virtual") t) _ _ (Some b) h.1) [
         | inl k ↦ stays items start virtual_name t (reserved (codes "virtual")) b (word_from (codes "virtual") t k.0) refl (same_Some _ _ k.1)
-        | inr k ↦
-            let m : (is_word (codes "zero") t ≡ true) × (shown_items items its.ZeroName ≡ b) = cond_some _ _ b k.1 in
-            stays items start zero_name t (reserved (codes "zero")) b (word_from (codes "zero") t m.0) refl m.1
+        | inr k ↦ elim (chosen (is_word (codes "zero") t) _ _ (Some b) k.1) [
+          | inl m ↦ stays items start zero_name t (reserved (codes "zero")) b (word_from (codes "zero") t m.0) refl (same_Some _ _ m.1)
+          | inr m ↦
+              let begun : Side → Draft = λ side. draft_at (item_slots (form.Flush side)) no_parts in
+              let s = mapped (λ side. body_at (map item_of items) (its.Drafting (form.Flush side) (begun side))) (side_of t) b m.1 in
+              stays items start (drafting (form.Flush s.value) [] (begun s.value) refl) t (reserved (side_word s.value)) b (side_from t s.value s.from) refl s.is
+        ]
       ]
     ]
 
@@ -322,7 +329,7 @@ pub record Follows (tables : FileTree) (part : TablePart) (t : Token) (v : State
   pub shown : state_of tables' part' ≡ v
   pub spells : spelled tables' part' ≡ spelled tables part ++ t ∷ []
 
-moves : (tables : FileTree) (part next : TablePart) (t u : Token) (v : State) → t ≡ u → table_part_tokens next ≡ table_part_tokens part ++ u ∷ [] → state_at (map table_of tables) (table_stage next) ≡ v → Follows tables part t v
+moves : (tables : FileTree) (part next : TablePart) (t u : Token) (v : State) → t ≡ u → table_part_tokens next ≡ table_part_tokens part ++ u ∷ [] → state_at (map decl_of tables) (table_stage next) ≡ v → Follows tables part t v
 moves tables part next t u v same spell shown = record {
   tables' = tables;
   part' = next;
@@ -330,28 +337,25 @@ moves tables part next t u v same spell shown = record {
   spells = ap (λ ts. file_tokens tables ++ ts) (spell ∙ ap (λ x. table_part_tokens part ++ x ∷ []) (sym same)) ∙ sym (append_assoc (file_tokens tables) (table_part_tokens part) (t ∷ []));
 }
 
-abbrev table_tree : List ℕ → List ItemTree → TableTree
-table_tree w items = record { name = w; items = items }
-
-table_ends : (tables : FileTree) (w : List ℕ) (items : List ItemTree) (t : Token) (v : State) → t ≡ mark close_brace → state_at (map table_of tables ++ decl.Table w (map item_of items) ∷ []) (table_stage file) ≡ v → Follows tables (table w items start) t v
+table_ends : (tables : FileTree) (w : List ℕ) (items : List ItemTree) (t : Token) (v : State) → t ≡ mark close_brace → state_at (map decl_of tables ++ decl.Table w (map item_of items) ∷ []) (table_stage file) ≡ v → Follows tables (table w items start) t v
 table_ends tables w items t v same shown = record {
   tables' = tables ++ table_tree w items ∷ [];
   part' = file;
-  shown = ap (λ ds. state_at ds (table_stage file)) (map-append table_of tables (table_tree w items ∷ [])) ∙ shown;
-  spells = append-nil _ ∙ flat_map-append table_tokens tables (table_tree w items ∷ [])
+  shown = ap (λ ds. state_at ds (table_stage file)) (map-append decl_of tables (table_tree w items ∷ [])) ∙ shown;
+  spells = append-nil _ ∙ flat_map-append decl_tokens tables (table_tree w items ∷ [])
       ∙ ap (λ ts. file_tokens tables ++ ts) (append-nil _ ∙ ap (λ ts. reserved (codes "table") ∷ name w ∷ mark open_brace ∷ ts) (ap (λ ts. ts ++ mark close_brace ∷ []) (sym (append-nil (flat_map item_tokens items))))
       ∙ ap (λ x. table_part_tokens (table w items start) ++ x ∷ []) (sym same))
       ∙ sym (append_assoc (file_tokens tables) (table_part_tokens (table w items start)) (t ∷ []));
 }
 
 inside : (tables : FileTree) (w : List ℕ) (items : List ItemTree) (part : Part) (t : Token) (v : State)
-    → option_map (λ b. state_at (map table_of tables) (stage.Table w b)) (body_step (map item_of items) (stage_of part) t) ≡ Some v → Follows tables (table w items part) t v
+    → option_map (λ b. state_at (map decl_of tables) (stage.Table w b)) (body_step (map item_of items) (stage_of part) t) ≡ Some v → Follows tables (table w items part) t v
 inside tables w items part t v e =
-    let m = mapped (λ b. state_at (map table_of tables) (stage.Table w b)) _ v e in
+    let m = mapped (λ b. state_at (map decl_of tables) (stage.Table w b)) _ v e in
     let r = follows_body items part t m.value m.from in
     moves tables (table w items part) (table w r.items' r.part') t t v refl
     (ap (λ ts. reserved (codes "table") ∷ name w ∷ mark open_brace ∷ ts) r.spelled)
-    (ap (λ b. state_at (map table_of tables) (stage.Table w b)) r.shown ∙ m.is)
+    (ap (λ b. state_at (map decl_of tables) (stage.Table w b)) r.shown ∙ m.is)
 
 start_only : (part : Part) → is_start (stage_of part) ≡ true → part ≡ start
 start_only start e = refl
@@ -371,7 +375,7 @@ start_only (operand w o s p) e = cc
 start_only (operator w o s p) e = cc
 
 table_read : (tables : FileTree) (w : List ℕ) (items : List ItemTree) (part : Part) (t : Token) (v : State)
-    → stage_step (map table_of tables) (table_stage (table w items part)) t ≡ Some v → Follows tables (table w items part) t v
+    → stage_step (map decl_of tables) (table_stage (table w items part)) t ≡ Some v → Follows tables (table w items part) t v
 table_read tables w items part t v e =
     elim (chosen (is_mark_of close_brace t && is_start (stage_of part)) _ _ (Some v) e) [
       | inl h ↦
@@ -380,12 +384,58 @@ table_read tables w items part t v e =
       | inr h ↦ inside tables w items part t v h.1
     ]
 
+-- something of a channel or a boundary is read
+declared_on : (tables : FileTree) (f : DeclForm) (tokens : List Token) (d e : Draft) (h : drafted (draft_at (decl_slots f) no_parts) tokens ≡ Some d) (t : Token) (v : State)
+    → drafted (draft_at (decl_slots f) no_parts) (tokens ++ t ∷ []) ≡ Some e → decl_settled (map decl_of tables) f e ≡ Some v → Follows tables (declaring f tokens d h) t v
+declared_on tables f tokens d e h t v longer is =
+    elim (chosen (is_done e.slots) _ _ (Some v) is) [
+      | inl k ↦
+          let m = mapped (λ x. state_at (map decl_of tables ++ x ∷ []) stage.File) (decl_from f e.parts) v k.1 in
+          let whole = unread (tokens ++ t ∷ []) (draft_at (decl_slots f) no_parts) e [] e.parts longer (all_read e.slots e.parts k.0) in
+          let r = decl_filled f ((tokens ++ t ∷ []) ++ []) e.parts whole in
+          let same : decl_of r.tree ≡ m.value = same_Some _ _ (sym r.means ∙ m.from) in
+          record {
+            tables' = tables ++ r.tree ∷ [];
+            part' = file;
+            shown = ap (λ ds. state_at ds stage.File) (map-append decl_of tables (r.tree ∷ [])) ∙ ap (λ x. state_at (map decl_of tables ++ x ∷ []) stage.File) same ∙ m.is;
+            spells = append-nil _ ∙ flat_map-append decl_tokens tables (r.tree ∷ [])
+                ∙ ap (λ ts. file_tokens tables ++ ts) (append-nil _ ∙ r.spells ∙ ap (λ ts. decl_head f ++ ts) (append-nil (tokens ++ t ∷ [])) ∙ sym (append_assoc (decl_head f) tokens (t ∷ [])))
+                ∙ sym (append_assoc (file_tokens tables) (decl_head f ++ tokens) (t ∷ []));
+          }
+      | inr k ↦ moves tables (declaring f tokens d h) (declaring f (tokens ++ t ∷ []) e longer) t t v refl (sym (append_assoc (decl_head f) tokens (t ∷ []))) (same_Some _ _ k.1)
+    ]
+
+declared_at : (tables : FileTree) (f : DeclForm) (tokens : List Token) (d : Draft) (h : drafted (draft_at (decl_slots f) no_parts) tokens ≡ Some d) (t : Token) (v : State) (o : Option Draft)
+    → draft_step d t ≡ o → option_and_then (decl_settled (map decl_of tables) f) o ≡ Some v → Follows tables (declaring f tokens d h) t v
+declared_at tables f tokens d h t v None is e = absurd (none-some v e)
+declared_at tables f tokens d h t v (Some c) is e = declared_on tables f tokens d c h t v (drafted-one tokens (draft_at (decl_slots f) no_parts) d c t h is) e
+
+abbrev begun_draft : DeclForm → Draft
+begun_draft f = draft_at (decl_slots f) no_parts
+
+file_read : (tables : FileTree) (t : Token) (v : State) → stage_step (map decl_of tables) stage.File t ≡ Some v → Follows tables file t v
+file_read tables t v e =
+    elim (chosen (is_word (codes "table") t) _ _ (Some v) e) [
+      | inl h ↦ moves tables file table_name t (reserved (codes "table")) v (word_from (codes "table") t h.0) refl (same_Some _ _ h.1)
+      | inr h ↦ elim (chosen (is_word (codes "channel") t) _ _ (Some v) h.1) [
+        | inl k ↦ moves tables file (declaring declared.Channel [] (begun_draft declared.Channel) refl) t (reserved (codes "channel")) v (word_from (codes "channel") t k.0) refl (same_Some _ _ k.1)
+        | inr k ↦
+            let m : (is_word (codes "boundary") t ≡ true) × (state_at (map decl_of tables) stage.BoundarySide ≡ v) = cond_some _ _ v k.1 in
+            moves tables file boundary_side t (reserved (codes "boundary")) v (word_from (codes "boundary") t m.0) refl m.1
+      ]
+    ]
+
+side_read : (tables : FileTree) (t : Token) (v : State) → stage_step (map decl_of tables) stage.BoundarySide t ≡ Some v → Follows tables boundary_side t v
+side_read tables t v e =
+    let s = mapped (λ side. begun (map decl_of tables) (declared.Boundary side)) (side_of t) v e in
+    moves tables boundary_side (declaring (declared.Boundary s.value) [] (begun_draft (declared.Boundary s.value)) refl) t (reserved (side_word s.value)) v (side_from t s.value s.from) refl s.is
+
 pub follows : (tables : FileTree) (part : TablePart) (t : Token) (v : State) → step (state_of tables part) t ≡ Some v → Follows tables part t v
-follows tables file t v e =
-    let k : (is_word (codes "table") t ≡ true) × (state_at (map table_of tables) (table_stage table_name) ≡ v) = cond_some _ _ v e in
-    moves tables file table_name t (reserved (codes "table")) v (word_from (codes "table") t k.0) refl k.1
+follows tables file t v e = file_read tables t v e
+follows tables boundary_side t v e = side_read tables t v e
+follows tables (declaring f tokens d h) t v e = declared_at tables f tokens d h t v (draft_step d t) refl e
 follows tables table_name t v e =
-    let n = mapped (λ w. state_at (map table_of tables) (stage.TableBrace w)) (name_of t) v e in
+    let n = mapped (λ w. state_at (map decl_of tables) (stage.TableBrace w)) (name_of t) v e in
     moves tables table_name (table_brace n.value) t (name n.value) v (name_from t n.value n.from) refl n.is
 follows tables (table_brace w) t v e = let m = marked open_brace _ v t e in moves tables (table_brace w) (table w [] start) t (mark open_brace) v m.0 refl m.1
 follows tables (table w items part) t v e = table_read tables w items part t v e

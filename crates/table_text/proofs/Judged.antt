@@ -7,9 +7,9 @@ use Rattle.std.proofs.lemmas.Bool.{leb-true, leb-false}
 use Rattle.std.specs.Prelude.{nat_le, map, count_by, option_and_then, MatchOption}
 use Rattle.table_text.specs.Bytes.{open_paren, close_paren}
 use Rattle.table_text.specs.Lexing.{Token}
-use Rattle.table_text.specs.Grammar.{FileTree, file_tokens, table_of, IsFile, Begins}
+use Rattle.table_text.specs.Grammar.{FileTree, file_tokens, decl_of, IsFile, Begins}
 use Rattle.table_text.specs.Limits.{max_open, max_declarations}
-use Rattle.table_text.specs.Faults.{own_fault, is_mark_of, begins_declaration, open_after, IsTaken, GrammarRefuses, IsRefused}
+use Rattle.table_text.specs.Faults.{own_fault, is_mark_of, behind_boundary, begins_declaration, open_after, begun_in, IsTaken, GrammarRefuses, IsRefused}
 use Rattle.table_text.specs.Machine.{step, run, start, state_at, is_file_stage}
 use Rattle.table_text.specs.Reading.{one_if, progress_after, limit_fault, limited, allowed, sound, taken, begin}
 use Rattle.table_text.specs.declared.decl.Decl.{Decl}
@@ -19,7 +19,8 @@ use Rattle.table_text.specs.declared.progress.Progress.{Progress}
 use Rattle.table_text.specs.declared.fault.TextFault.{TextFault}
 use Rattle.table_text.specs.declared.fault.TextKind.{TextKind}
 use Rattle.table_text.specs.declared.fault.TextKind.TheVariants.{Unexpected, TooDeep, TooMany}
-use Rattle.table_text.proofs.Trees.{TablePart, file, table_name, table_brace, table, table_stage, spelled, state_of}
+use Rattle.table_text.proofs.Trees.{TablePart, file, boundary_side, declaring, table_name, table_brace, table, table_stage, spelled, state_of}
+use Rattle.table_text.proofs.Begun.{behind_boundary-append, begun_in-one}
 use Rattle.table_text.proofs.FromTests.{both}
 use Rattle.table_text.proofs.Follows.{follows}
 use Rattle.table_text.proofs.Completes.{complete}
@@ -63,8 +64,10 @@ begins_not before s t h e (f, more, is) =
     let stuck : run start (before ++ t ∷ []) ≡ None = run-append start s before (t ∷ []) h.runs ∙ one_step s s t None e in
     none-some r.state (sym stuck ∙ r.is)
 
-part_ends : (tables : FileTree) (part : TablePart) → is_file_stage (table_stage part) ≡ true → IsFile (spelled tables part) (map table_of tables)
+part_ends : (tables : FileTree) (part : TablePart) → is_file_stage (table_stage part) ≡ true → IsFile (spelled tables part) (map decl_of tables)
 part_ends tables file e = (tables, sym (append-nil (file_tokens tables)), refl)
+part_ends tables boundary_side e = absurd (cc)
+part_ends tables (declaring f tokens d h) e = absurd (cc)
 part_ends tables table_name e = absurd (cc)
 part_ends tables (table_brace w) e = absurd (cc)
 part_ends tables (table w items p) e = absurd (cc)
@@ -93,10 +96,11 @@ pub record IsProgress (before : List Token) (p : Progress) : Type 0 where
   pub read : HasRead before p.state
   pub opened : p.opened ≡ count_by (is_mark_of open_paren) before
   pub closed : p.closed ≡ count_by (is_mark_of close_paren) before
-  pub begun : p.begun ≡ count_by begins_declaration before
+  pub begun : p.begun ≡ begun_in before
+  pub behind : p.behind_boundary ≡ behind_boundary false before
 
 pub is_begin : IsProgress [] begin
-is_begin = record { read = has_read_none; opened = refl; closed = refl; begun = refl }
+is_begin = record { read = has_read_none; opened = refl; closed = refl; begun = refl; behind = refl }
 
 count-one : (test : Token → Bool) (n : ℕ) (before : List Token) (t : Token) → n ≡ count_by test before → n + one_if (test t) ≡ count_by test (before ++ t ∷ [])
 count-one test n before t h =
@@ -109,7 +113,8 @@ is_progress_after before p t v h e = record {
   read = has_read_one before p.state v t h.read e;
   opened = count-one (is_mark_of open_paren) p.opened before t h.opened;
   closed = count-one (is_mark_of close_paren) p.closed before t h.closed;
-  begun = count-one begins_declaration p.begun before t h.begun;
+  begun = ap (λ b. p.begun + one_if (begins_declaration b t)) h.behind ∙ ap (λ n. n + one_if (begins_declaration (behind_boundary false before) t)) h.begun ∙ sym (begun_in-one before t);
+  behind = sym (behind_boundary-append false before (t ∷ []));
 }
 
 open_is : (before : List Token) (p : Progress) → IsProgress before p → p.opened - p.closed ≡ open_after before
@@ -137,21 +142,21 @@ judged_limits before p place t v h own e =
     let may : Begins (before ++ t ∷ []) = begins (before ++ t ∷ []) v next.read in
     let depth : p.opened - p.closed ≡ open_after before = open_is before p h in
     let deep = is_mark_of open_paren t && nat_le max_open (p.opened - p.closed) in
-    let many = begins_declaration t && nat_le max_declarations p.begun in
+    let many = begins_declaration p.behind_boundary t && nat_le max_declarations p.begun in
     elim deep as (λ b. deep ≡ b → Verdict before place t (limited p place t v (cond b (Some TooDeep) (cond many (Some TooMany) None)))) [
       | true ↦ λ d.
           let q : (is_mark_of open_paren t ≡ true) × (nat_le max_open (p.opened - p.closed) ≡ true) = both _ _ d in
           (refl, refused_by_grammar before t TooDeep own (may, q.0, subst (λ n. max_open ≤ n) depth (leb-true max_open (p.opened - p.closed) q.1)))
       | false ↦ λ d. elim many as (λ b. many ≡ b → Verdict before place t (limited p place t v (cond b (Some TooMany) None))) [
         | true ↦ λ m.
-            let q : (begins_declaration t ≡ true) × (nat_le max_declarations p.begun ≡ true) = both _ _ m in
-            (refl, refused_by_grammar before t TooMany own (may, q.0, subst (λ n. max_declarations ≤ n) h.begun (leb-true max_declarations p.begun q.1)))
+            let q : (begins_declaration p.behind_boundary t ≡ true) × (nat_le max_declarations p.begun ≡ true) = both _ _ m in
+            (refl, refused_by_grammar before t TooMany own (may, ap (λ b. begins_declaration b t) (sym h.behind) ∙ q.0, subst (λ n. max_declarations ≤ n) h.begun (leb-true max_declarations p.begun q.1)))
         | false ↦ λ m. (
           record {
             sound = own;
             allowed = may;
             shallow = λ x. subst (λ n. n < max_open) depth (not_both (is_mark_of open_paren t) max_open (p.opened - p.closed) d x);
-            few = λ x. subst (λ n. n < max_declarations) h.begun (not_both (begins_declaration t) max_declarations p.begun m x);
+            few = λ x. subst (λ n. n < max_declarations) h.begun (not_both (begins_declaration p.behind_boundary t) max_declarations p.begun m (ap (λ b. begins_declaration b t) h.behind ∙ x));
           },
           next,
         )

@@ -1,6 +1,7 @@
 pub mod Stacks
 pub mod Digits
 pub mod FromTests
+pub mod Begun
 pub mod Fillings
 pub mod FormTrees
 pub mod Trees

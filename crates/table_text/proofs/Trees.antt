@@ -4,9 +4,9 @@ use Rattle.std.specs.Prelude.{map, codes}
 use Rattle.std.specs.List.{flat_map}
 use Rattle.table_text.specs.Bytes.{open_paren, times_sign, plus_sign, equals_sign, colon, open_brace}
 use Rattle.table_text.specs.Lexing.{Token, name, reserved, number, mark}
-use Rattle.table_text.specs.Grammar.{Sum, first_term, plus, Product, first_factor, times, Atom, ItemTree, FileTree, sum_tokens, product_tokens, atom_tokens, type_word, item_tokens, file_tokens, terms, factors, atom_expr, product_of, item_of, table_of}
+use Rattle.table_text.specs.Grammar.{Sum, first_term, plus, Product, first_factor, times, Atom, ItemTree, FileTree, sum_tokens, product_tokens, atom_tokens, type_word, item_tokens, file_tokens, terms, factors, atom_expr, product_of, item_of, decl_of}
 use Rattle.table_text.specs.Drafts.{no_parts, draft_at}
-use Rattle.table_text.specs.Forms.{item_slots}
+use Rattle.table_text.specs.Forms.{item_slots, decl_slots}
 use Rattle.table_text.specs.Machine.{body_at, state_at}
 use Rattle.table_text.specs.declared.expr.Expr.{Expr}
 use Rattle.table_text.specs.declared.formula.Frame.{Frame}
@@ -17,8 +17,9 @@ use Rattle.table_text.specs.declared.state.Stage.TheVariants as stage
 use Rattle.table_text.specs.declared.state.State.{State}
 use Rattle.table_text.specs.declared.draft.Draft.{Draft}
 use Rattle.table_text.specs.declared.forms.ItemForm.{ItemForm}
+use Rattle.table_text.specs.declared.forms.DeclForm.{DeclForm}
 use Rattle.table_text.proofs.Fillings.{drafted}
-use Rattle.table_text.proofs.FormTrees.{item_head}
+use Rattle.table_text.proofs.FormTrees.{item_head, decl_head}
 
 -- a sum before a `+`, if there is one, and a product before a `*`
 abbrev pub plus_tokens : Option Sum → List Token
@@ -118,18 +119,24 @@ items_tokens items part = flat_map item_tokens items ++ part_tokens part
 
 pub data TablePart : Type 0 where
   file : TablePart
+  boundary_side : TablePart
+  declaring : (form : DeclForm) (tokens : List Token) (d : Draft) → drafted (draft_at (decl_slots form) no_parts) tokens ≡ Some d → TablePart
   table_name : TablePart
   table_brace : List ℕ → TablePart
   table : List ℕ → List ItemTree → Part → TablePart
 
 abbrev pub table_stage : TablePart → Stage
 table_stage file = stage.File
+table_stage boundary_side = stage.BoundarySide
+table_stage (declaring form tokens d _) = stage.Drafting form d
 table_stage table_name = stage.TableName
 table_stage (table_brace w) = stage.TableBrace w
 table_stage (table w items part) = stage.Table w (body_at (map item_of items) (stage_of part))
 
 abbrev pub table_part_tokens : TablePart → List Token
 table_part_tokens file = []
+table_part_tokens boundary_side = reserved (codes "boundary") ∷ []
+table_part_tokens (declaring form tokens d _) = decl_head form ++ tokens
 table_part_tokens table_name = reserved (codes "table") ∷ []
 table_part_tokens (table_brace w) = reserved (codes "table") ∷ name w ∷ []
 table_part_tokens (table w items part) = reserved (codes "table") ∷ name w ∷ mark open_brace ∷ items_tokens items part
@@ -138,7 +145,7 @@ abbrev pub spelled : FileTree → TablePart → List Token
 spelled tables part = file_tokens tables ++ table_part_tokens part
 
 abbrev pub state_of : FileTree → TablePart → State
-state_of tables part = state_at (map table_of tables) (table_stage part)
+state_of tables part = state_at (map decl_of tables) (table_stage part)
 
 -- ---- sums and products that grow
 

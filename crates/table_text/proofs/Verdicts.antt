@@ -9,7 +9,7 @@ use Rattle.table_text.specs.Bytes.{is_text, open_paren}
 use Rattle.table_text.specs.Lexing.{Token, name, reserved, number, mark, wrong, Spot, spots}
 use Rattle.table_text.specs.Grammar.{IsFile}
 use Rattle.table_text.specs.Limits.{max_open, max_declarations}
-use Rattle.table_text.specs.Faults.{own_fault, is_mark_of, begins_declaration, open_after, begun_in, IsTaken, GrammarRefuses, IsRefused, AreTaken, IsTokenFault, IsFirstFault, IsTablesText}
+use Rattle.table_text.specs.Faults.{own_fault, is_mark_of, behind_boundary, begins_declaration, open_after, begun_in, IsTaken, GrammarRefuses, IsRefused, AreTaken, IsTokenFault, IsFirstFault, IsTablesText}
 use Rattle.table_text.specs.Machine.{is_file_stage}
 use Rattle.table_text.specs.Reading.{taken as taken_on, then_read, fault_at, finished, begin, reading_from, reading_at, reading}
 use Rattle.table_text.specs.declared.decl.Decl.{Decl}
@@ -59,12 +59,12 @@ taken_not_refused before t kind a r = by_kind kind (subst (λ o. MatchOption o (
     by_kind NameTooLong g = g
     by_kind NotBuilt g = g
 
-no_mark_begins : (t : Token) → is_mark_of open_paren t ≡ true → begins_declaration t ≡ true → ⊥
-no_mark_begins (name w) a b = cc
-no_mark_begins (reserved w) a b = cc
-no_mark_begins (number n) a b = cc
-no_mark_begins (mark c) a b = cc
-no_mark_begins (wrong k) a b = cc
+no_mark_begins : (behind : Bool) (t : Token) → is_mark_of open_paren t ≡ true → begins_declaration behind t ≡ true → ⊥
+no_mark_begins behind (name w) a b = cc
+no_mark_begins behind (reserved w) a b = cc
+no_mark_begins behind (number n) a b = cc
+no_mark_begins behind (mark c) a b = cc
+no_mark_begins behind (wrong k) a b = cc
 
 one_kind : (before : List Token) (t : Token) (k l : TextKind) → GrammarRefuses before t k → GrammarRefuses before t l → k ≡ l
 one_kind before t Unexpected Unexpected a b = refl
@@ -76,13 +76,13 @@ one_kind before t Unexpected NameTooLong a b = absurd b
 one_kind before t Unexpected NotBuilt a b = absurd b
 one_kind before t TooDeep Unexpected a b = absurd (b a.0)
 one_kind before t TooDeep TooDeep a b = refl
-one_kind before t TooDeep TooMany a b = absurd (no_mark_begins t a.1 b.1)
+one_kind before t TooDeep TooMany a b = absurd (no_mark_begins (behind_boundary false before) t a.1 b.1)
 one_kind before t TooDeep NotText a b = absurd b
 one_kind before t TooDeep NumberTooWide a b = absurd b
 one_kind before t TooDeep NameTooLong a b = absurd b
 one_kind before t TooDeep NotBuilt a b = absurd b
 one_kind before t TooMany Unexpected a b = absurd (b a.0)
-one_kind before t TooMany TooDeep a b = absurd (no_mark_begins t b.1 a.1)
+one_kind before t TooMany TooDeep a b = absurd (no_mark_begins (behind_boundary false before) t b.1 a.1)
 one_kind before t TooMany TooMany a b = refl
 one_kind before t TooMany NotText a b = absurd b
 one_kind before t TooMany NumberTooWide a b = absurd b

@@ -1,6 +1,6 @@
 -- Which texts are read, and the first fault of each other one.
 -- Source: docs/LANGUAGE.md, "Faults".
-use Rattle.std.specs.Prelude.{◌≡◌, ℕ, ◌-◌, ◌<◌, ◌≤◌, not, ◌==◌, if◌then◌else◌, List, [], ◌∷◌, ◌++◌, length, take, map, position, count_by, slice_get, codes, Bool, true, false, Option, Some, None, MatchOption}
+use Rattle.std.specs.Prelude.{◌≡◌, ℕ, ◌+◌, ◌-◌, ◌<◌, ◌≤◌, not, ◌&&◌, ◌||◌, ◌==◌, if◌then◌else◌, List, [], ◌∷◌, ◌++◌, length, take, map, position, count_by, slice_get, codes, Bool, true, false, Option, Some, None, MatchOption}
 use Rattle.std.specs.List.{list_any}
 use Rattle.std.specs.Str.{bytes_eq}
 use Rattle.table_text.specs.Bytes.{is_text, open_paren, close_paren}
@@ -31,37 +31,56 @@ is_mark_of b (number n) = false
 is_mark_of b (mark c) = b == c
 is_mark_of b (wrong kind) = false
 
--- the words with which declarations begin
-abbrev pub declaration_words : List (List ℕ)
-declaration_words = codes "table" ∷ codes "column" ∷ codes "virtual" ∷ codes "zero" ∷ []
+abbrev pub is_one_of : List (List ℕ) → Token → Bool
+is_one_of words (name w) = false
+is_one_of words (reserved w) = list_any (bytes_eq w) words
+is_one_of words (number n) = false
+is_one_of words (mark b) = false
+is_one_of words (wrong kind) = false
 
-abbrev pub begins_declaration : Token → Bool
-begins_declaration (name w) = false
-begins_declaration (reserved w) = list_any (bytes_eq w) declaration_words
-begins_declaration (number n) = false
-begins_declaration (mark b) = false
-begins_declaration (wrong kind) = false
+-- the words with which declarations begin, and those with which one begins that isn't behind `boundary`
+abbrev pub declaration_words : List (List ℕ)
+declaration_words = codes "channel" ∷ codes "boundary" ∷ codes "table" ∷ codes "column" ∷ codes "virtual" ∷ codes "zero" ∷ []
+
+abbrev pub side_words : List (List ℕ)
+side_words = codes "push" ∷ codes "pull" ∷ []
+
+abbrev pub is_boundary : Token → Bool
+is_boundary token = is_one_of (codes "boundary" ∷ []) token
+
+-- whether a declaration begins with a token, which stands behind `boundary` or not
+abbrev pub begins_declaration : Bool → Token → Bool
+begins_declaration behind token = is_one_of declaration_words token || (is_one_of side_words token && not behind)
+
+-- whether what follows these tokens is behind `boundary`, if what they follow is or isn't
+abbrev pub behind_boundary : Bool → List Token → Bool
+behind_boundary behind [] = behind
+behind_boundary behind (t ∷ tokens) = behind_boundary (is_boundary t) tokens
 
 -- how many parentheses are open after these tokens
 abbrev pub open_after : List Token → ℕ
 open_after tokens = count_by (is_mark_of open_paren) tokens - count_by (is_mark_of close_paren) tokens
 
 -- how many declarations begin with these tokens
+abbrev pub begun_from : Bool → List Token → ℕ
+begun_from behind [] = 0
+begun_from behind (t ∷ tokens) = (if begins_declaration behind t then 1 else 0) + begun_from (is_boundary t) tokens
+
 abbrev pub begun_in : List Token → ℕ
-begun_in tokens = count_by begins_declaration tokens
+begun_in tokens = begun_from false tokens
 
 -- a token that may stand after these
 pub record IsTaken (before : List Token) (token : Token) : Type 0 where
   pub sound : own_fault token ≡ None
   pub allowed : Begins (before ++ token ∷ [])
   pub shallow : is_mark_of open_paren token ≡ true → open_after before < max_open
-  pub few : begins_declaration token ≡ true → begun_in before < max_declarations
+  pub few : begins_declaration (behind_boundary false before) token ≡ true → begun_in before < max_declarations
 
 -- what the grammar and its limits have against a token after these
 abbrev pub GrammarRefuses : List Token → Token → TextKind → Type 0
 GrammarRefuses before token Unexpected = ¬ Begins (before ++ token ∷ [])
 GrammarRefuses before token TooDeep = Begins (before ++ token ∷ []) × (is_mark_of open_paren token ≡ true) × (max_open ≤ open_after before)
-GrammarRefuses before token TooMany = Begins (before ++ token ∷ []) × (begins_declaration token ≡ true) × (max_declarations ≤ begun_in before)
+GrammarRefuses before token TooMany = Begins (before ++ token ∷ []) × (begins_declaration (behind_boundary false before) token ≡ true) × (max_declarations ≤ begun_in before)
 GrammarRefuses before token NotText = ⊥
 GrammarRefuses before token NumberTooWide = ⊥
 GrammarRefuses before token NameTooLong = ⊥

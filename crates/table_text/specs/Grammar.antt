@@ -10,6 +10,8 @@ use Rattle.table_text.specs.declared.expr.Expr.TheVariants as expr
 use Rattle.table_text.specs.declared.decl.Term.{Term}
 use Rattle.table_text.specs.declared.decl.VirtualForm.{VirtualForm}
 use Rattle.table_text.specs.declared.decl.VirtualForm.TheVariants as form
+use Rattle.table_text.specs.declared.decl.Side.{Side}
+use Rattle.table_text.specs.declared.decl.Side.TheVariants.{Push, Pull}
 use Rattle.table_text.specs.declared.decl.Item.{Item}
 use Rattle.table_text.specs.declared.decl.Item.TheVariants as item
 use Rattle.table_text.specs.declared.decl.Decl.{Decl}
@@ -46,20 +48,24 @@ pub data FormTree : Type 0 where
   pack_form : List ℕ → ℕ → FormTree
   linear_form : Option ℕ → TermTree → List TermTree → FormTree
 
--- item = "column" name ":" type ";" | "virtual" name "=" form ";" | "zero" name ":" sum ";"
+-- item = "column" name ":" type ";" | "virtual" name "=" form ";" | "zero" name ":" sum ";" | side name "(" name { "," name } ")" [ "if" name ] ";"
 pub data ItemTree : Type 0 where
   column_item : List ℕ → TypeTree → ItemTree
   virtual_item : List ℕ → FormTree → ItemTree
   zero_item : List ℕ → Sum → ItemTree
+  flush_item : Side → (channel column : List ℕ) → (more : List (List ℕ)) → (selector : Option (List ℕ)) → ItemTree
 
+-- channel = "channel" name ":" number ";"
+-- boundary = "boundary" side name "(" number { "," number } ")" ";"
 -- table = "table" name "{" { item } "}"
-pub record TableTree : Type 0 where
-  pub name : List ℕ
-  pub items : List ItemTree
+pub data DeclTree : Type 0 where
+  channel_tree : List ℕ → ℕ → DeclTree
+  boundary_tree : Side → (channel : List ℕ) → (value : ℕ) → (more : List ℕ) → DeclTree
+  table_tree : List ℕ → List ItemTree → DeclTree
 
--- file = { table }
+-- file = { channel | boundary | table }
 abbrev pub FileTree : Type 0
-FileTree = List TableTree
+FileTree = List DeclTree
 
 -- ---- what a tree spells
 
@@ -113,16 +119,37 @@ form_tokens (project_form c k j) = reserved (codes "project") ∷ shift_tokens c
 form_tokens (pack_form c k) = reserved (codes "pack") ∷ mark open_paren ∷ name c ∷ mark comma ∷ number k ∷ mark close_paren ∷ []
 form_tokens (linear_form k t ts) = reserved (codes "linear") ∷ mark open_paren ∷ (constant_tokens k ++ (term_tokens t ++ more_term_tokens ts)) ++ mark close_paren ∷ []
 
+-- side = "push" | "pull"
+abbrev pub side_word : Side → List ℕ
+side_word Push = codes "push"
+side_word Pull = codes "pull"
+
+-- the members of a tuple behind the first
+abbrev pub more_name_tokens : List (List ℕ) → List Token
+more_name_tokens [] = []
+more_name_tokens (w ∷ ws) = mark comma ∷ name w ∷ more_name_tokens ws
+
+abbrev pub more_number_tokens : List ℕ → List Token
+more_number_tokens [] = []
+more_number_tokens (n ∷ ns) = mark comma ∷ number n ∷ more_number_tokens ns
+
+abbrev pub selector_tokens : Option (List ℕ) → List Token
+selector_tokens None = []
+selector_tokens (Some s) = reserved (codes "if") ∷ name s ∷ []
+
 abbrev pub item_tokens : ItemTree → List Token
 item_tokens (column_item w t) = reserved (codes "column") ∷ name w ∷ mark colon ∷ type_tokens t ++ mark semicolon ∷ []
 item_tokens (virtual_item w f) = reserved (codes "virtual") ∷ name w ∷ mark equals_sign ∷ form_tokens f ++ mark semicolon ∷ []
 item_tokens (zero_item w s) = reserved (codes "zero") ∷ name w ∷ mark colon ∷ sum_tokens s ++ mark semicolon ∷ []
+item_tokens (flush_item side c w ws s) = reserved (side_word side) ∷ name c ∷ mark open_paren ∷ name w ∷ more_name_tokens ws ++ mark close_paren ∷ selector_tokens s ++ mark semicolon ∷ []
 
-abbrev pub table_tokens : TableTree → List Token
-table_tokens t = reserved (codes "table") ∷ name t.name ∷ mark open_brace ∷ flat_map item_tokens t.items ++ mark close_brace ∷ []
+abbrev pub decl_tokens : DeclTree → List Token
+decl_tokens (channel_tree w n) = reserved (codes "channel") ∷ name w ∷ mark colon ∷ number n ∷ mark semicolon ∷ []
+decl_tokens (boundary_tree side c n ns) = reserved (codes "boundary") ∷ reserved (side_word side) ∷ name c ∷ mark open_paren ∷ number n ∷ more_number_tokens ns ++ mark close_paren ∷ mark semicolon ∷ []
+decl_tokens (table_tree w items) = reserved (codes "table") ∷ name w ∷ mark open_brace ∷ flat_map item_tokens items ++ mark close_brace ∷ []
 
 abbrev pub file_tokens : FileTree → List Token
-file_tokens f = flat_map table_tokens f
+file_tokens f = flat_map decl_tokens f
 
 -- ---- what a tree means: a sum or a product of one part is that part; a constant that isn't written is 0, a coefficient 1
 
@@ -171,13 +198,16 @@ item_of (column_item w (one_value level _)) = item.Column w level 0
 item_of (column_item w (several_values level log_values _ _)) = item.Column w level log_values
 item_of (virtual_item w f) = item.Virtual w (form_of f)
 item_of (zero_item w s) = item.Zero w (sum_of (terms s))
+item_of (flush_item side c w ws s) = item.Flush side c (w ∷ ws) s
 
-abbrev pub table_of : TableTree → Decl
-table_of t = decl.Table t.name (map item_of t.items)
+abbrev pub decl_of : DeclTree → Decl
+decl_of (channel_tree w n) = decl.Channel w n
+decl_of (boundary_tree side c n ns) = decl.Boundary side c (n ∷ ns)
+decl_of (table_tree w items) = decl.Table w (map item_of items)
 
 -- tokens that a file spells, and its declarations
 abbrev pub IsFile : List Token → List Decl → Type 0
-IsFile tokens decls = (f : FileTree) × (file_tokens f ≡ tokens) × (map table_of f ≡ decls)
+IsFile tokens decls = (f : FileTree) × (file_tokens f ≡ tokens) × (map decl_of f ≡ decls)
 
 -- tokens with which a file begins
 abbrev pub Begins : List Token → Type 0

@@ -7,7 +7,7 @@ use Rattle.table_text.specs.Grammar.{sum_of, product_of}
 use Rattle.table_text.specs.Faults.{is_mark_of}
 use Rattle.table_text.specs.TokenClasses.{name_of, is_word, level_of, number_in, log_values_of}
 use Rattle.table_text.specs.Drafts.{no_parts, is_done, draft_at, draft_step}
-use Rattle.table_text.specs.Forms.{form_word, item_slots, item_from}
+use Rattle.table_text.specs.Forms.{form_word, side_of, item_slots, item_from, decl_slots, decl_from}
 use Rattle.table_text.specs.declared.expr.Expr.{Expr}
 use Rattle.table_text.specs.declared.expr.Expr.TheVariants as expr
 use Rattle.table_text.specs.declared.decl.Item.{Item}
@@ -18,7 +18,9 @@ use Rattle.table_text.specs.declared.formula.Frame.{Frame}
 use Rattle.table_text.specs.declared.formula.Formula.{Formula}
 use Rattle.table_text.specs.declared.draft.Draft.{Draft}
 use Rattle.table_text.specs.declared.forms.ItemForm.{ItemForm}
-use Rattle.table_text.specs.declared.forms.ItemForm.TheVariants.{Virtual}
+use Rattle.table_text.specs.declared.forms.ItemForm.TheVariants.{Virtual, Flush}
+use Rattle.table_text.specs.declared.forms.DeclForm.{DeclForm}
+use Rattle.table_text.specs.declared.forms.DeclForm.TheVariants as declaring
 use Rattle.table_text.specs.declared.body.ItemStage.{ItemStage}
 use Rattle.table_text.specs.declared.body.ItemStage.TheVariants.{Start, ColumnName, ColumnColon, ColumnType, ColumnEnd, ColumnValues, ColumnLast, VirtualName, VirtualEquals, VirtualForm, Drafting, ZeroName, ZeroColon, Operand, Operator}
 use Rattle.table_text.specs.declared.body.Body.{Body}
@@ -95,7 +97,8 @@ abbrev pub body_step : List Item → ItemStage → Token → Option Body
 body_step items Start token =
     if is_word (codes "column") token then Some (body_at items ColumnName)
     else (if is_word (codes "virtual") token then Some (body_at items VirtualName)
-    else (if is_word (codes "zero") token then Some (body_at items ZeroName) else None))
+    else (if is_word (codes "zero") token then Some (body_at items ZeroName)
+    else option_map (λ side. body_at items (Drafting (Flush side) (draft_at (item_slots (Flush side)) no_parts))) (side_of token)))
 body_step items ColumnName token = option_map (λ w. body_at items (ColumnColon w)) (name_of token)
 body_step items (ColumnColon n) token = if is_mark_of colon token then Some (body_at items (ColumnType n)) else None
 body_step items (ColumnType n) token = option_map (λ level. body_at items (ColumnEnd n level)) (option_and_then level_of (name_of token))
@@ -135,9 +138,22 @@ is_start (Operator n f) = false
 abbrev pub state_at : List Decl → Stage → State
 state_at decls stage = record { decls = decls; stage = stage }
 
+-- a channel or a boundary behind its first words
+abbrev pub begun : List Decl → DeclForm → State
+begun decls form = state_at decls (stage.Drafting form (draft_at (decl_slots form) no_parts))
+
+-- a channel or a boundary of which something was read: it is done, or it goes on
+abbrev pub decl_settled : List Decl → DeclForm → Draft → Option State
+decl_settled decls form d = if is_done d.slots then option_map (λ e. state_at (decls ++ e ∷ []) stage.File) (decl_from form d.parts) else Some (state_at decls (stage.Drafting form d))
+
 -- what comes next in a text after one token more
 abbrev pub stage_step : List Decl → Stage → Token → Option State
-stage_step decls stage.File token = if is_word (codes "table") token then Some (state_at decls stage.TableName) else None
+stage_step decls stage.File token =
+    if is_word (codes "table") token then Some (state_at decls stage.TableName)
+    else (if is_word (codes "channel") token then Some (begun decls declaring.Channel)
+    else (if is_word (codes "boundary") token then Some (state_at decls stage.BoundarySide) else None))
+stage_step decls stage.BoundarySide token = option_map (λ side. begun decls (declaring.Boundary side)) (side_of token)
+stage_step decls (stage.Drafting form d) token = option_and_then (decl_settled decls form) (draft_step d token)
 stage_step decls stage.TableName token = option_map (λ w. state_at decls (stage.TableBrace w)) (name_of token)
 stage_step decls (stage.TableBrace n) token = if is_mark_of open_brace token then Some (state_at decls (stage.Table n (body_at [] Start))) else None
 stage_step decls (stage.Table n body) token =
@@ -160,6 +176,8 @@ run s (token ∷ tokens) = option_and_then (λ t. run t tokens) (step s token)
 -- whether a table, or the end of the text, comes next
 abbrev pub is_file_stage : Stage → Bool
 is_file_stage stage.File = true
+is_file_stage stage.BoundarySide = false
+is_file_stage (stage.Drafting form d) = false
 is_file_stage stage.TableName = false
 is_file_stage (stage.TableBrace n) = false
 is_file_stage (stage.Table n body) = false

@@ -1,10 +1,10 @@
 -- What the reader answers, as a function of the text.
 -- Source: docs/ARCHITECTURE.md, "Within table_text".
-use Rattle.std.specs.Prelude.{◌≡◌, ℕ, ◌+◌, ◌-◌, Bool, not, ◌&&◌, ◌≤◌, nat_le, if◌then◌else◌, List, [], ◌∷◌, length, position, Option, Some, None, Result, Ok, Err}
+use Rattle.std.specs.Prelude.{◌≡◌, ℕ, ◌+◌, ◌-◌, Bool, false, not, ◌&&◌, ◌≤◌, nat_le, if◌then◌else◌, List, [], ◌∷◌, length, position, Option, Some, None, Result, Ok, Err}
 use Rattle.table_text.specs.Bytes.{is_text, open_paren, close_paren}
 use Rattle.table_text.specs.Lexing.{Token, Spot, spots}
 use Rattle.table_text.specs.Limits.{max_open, max_declarations}
-use Rattle.table_text.specs.Faults.{own_fault, is_mark_of, begins_declaration}
+use Rattle.table_text.specs.Faults.{own_fault, is_mark_of, is_boundary, begins_declaration}
 use Rattle.table_text.specs.Machine.{step, start, is_file_stage}
 use Rattle.table_text.specs.declared.decl.Decl.{Decl}
 use Rattle.table_text.specs.declared.state.State.{State}
@@ -39,14 +39,15 @@ progress_after p token state = record {
   state = state;
   opened = p.opened + one_if (is_mark_of open_paren token);
   closed = p.closed + one_if (is_mark_of close_paren token);
-  begun = p.begun + one_if (begins_declaration token);
+  begun = p.begun + one_if (begins_declaration p.behind_boundary token);
+  behind_boundary = is_boundary token;
 }
 
 -- what the limits have against a token
 abbrev pub limit_fault : Progress → Token → Option TextKind
 limit_fault p token =
     if is_mark_of open_paren token && nat_le max_open (p.opened - p.closed) then Some TooDeep
-    else (if begins_declaration token && nat_le max_declarations p.begun then Some TooMany else None)
+    else (if begins_declaration p.behind_boundary token && nat_le max_declarations p.begun then Some TooMany else None)
 
 -- after a token that the grammar allows, unless a limit refuses it
 abbrev pub limited : Progress → ℕ → Token → State → Option TextKind → Result Progress TextFault
@@ -92,7 +93,7 @@ reading_from p (s ∷ spots) end = then_read (taken p s.place s.token) (λ q. re
 
 -- before the first token
 abbrev pub begin : Progress
-begin = record { state = start; opened = 0; closed = 0; begun = 0 }
+begin = record { state = start; opened = 0; closed = 0; begun = 0; behind_boundary = false }
 
 -- the reading of a text whose first byte that no text has is known
 abbrev pub reading_at : List ℕ → Option ℕ → Result (List Decl) TextFault

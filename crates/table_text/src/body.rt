@@ -8,7 +8,7 @@ ghost use Rattle.table_text.specs.StepMeaning.{IsStepTo};
 use crate::decl::{Item, TableItems};
 use crate::draft::Draft;
 use crate::expr::{Expr, Name};
-use crate::forms::{ItemForm, begun_item, form_word, item_from};
+use crate::forms::{ItemForm, begun_item, form_word, item_from, side_of};
 use crate::formula::Formula;
 use crate::refusal::Refusal;
 use crate::token::{Token, is_mark, is_word, level_of, log_values_of, name_of};
@@ -109,7 +109,7 @@ fn operator_step(
 }
 
 /// Where an item begins.
-fn start_step(items: TableItems, token: Token<'_>) -> Result<Body, Refusal>
+fn start_step(alloc: Global, items: TableItems, token: Token<'_>) -> Result<Body, Refusal>
     ensures { IsStepTo result (body_step items ItemStage.Start (shown token.entry)) }
 {
     if is_word(token, b"column") {
@@ -122,7 +122,13 @@ fn start_step(items: TableItems, token: Token<'_>) -> Result<Body, Refusal>
         let stage = ItemStage::ZeroName;
         Ok(Body { items, stage })
     } else {
-        Err(Refusal::Unexpected)
+        let Some(side) = side_of(token) else {
+            return Err(Refusal::Unexpected);
+        };
+        let form = ItemForm::Flush(side);
+        let draft = begun_item(alloc, &form)?;
+        let stage = ItemStage::Drafting(form, draft);
+        Ok(Body { items, stage })
     }
 }
 
@@ -149,7 +155,7 @@ pub(crate) fn body_step(alloc: Global, body: Body, token: Token<'_>) -> Result<B
 {
     let Body { mut items, stage } = body;
     match stage {
-        ItemStage::Start => start_step(items, token),
+        ItemStage::Start => start_step(alloc, items, token),
         ItemStage::ColumnName => {
             let stage = ItemStage::ColumnColon(name_of(alloc, token)?);
             Ok(Body { items, stage })

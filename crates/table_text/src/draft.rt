@@ -1,7 +1,7 @@
 //! A declaration that is being read, place by place.
 
 ghost use Rattle.std.specs.Prelude.{◌≡◌, IfOk};
-ghost use Rattle.table_text.specs.Drafts.{no_parts, with_name, with_number, with_held, with_constant, with_term, draft_at, summand_step, slot_step, draft_step};
+ghost use Rattle.table_text.specs.Drafts.{no_parts, with_name, with_column, with_number, with_held, with_constant, with_term, draft_at, summand_step, slot_step, draft_step};
 ghost use Rattle.table_text.specs.TokenMeaning.{shown};
 ghost use Rattle.table_text.specs.StepMeaning.{IsStepTo};
 
@@ -9,7 +9,7 @@ use crate::decl::{Numbers, Term, Terms};
 use crate::expr::{Name, Names};
 use crate::refusal::Refusal;
 use crate::slots::{Slot, Slots};
-use crate::token::{Token, is_mark, name_of, number_of};
+use crate::token::{Token, is_mark, is_word, name_of, number_of};
 use sqlite_items::Items;
 use std::alloc::{AllocError, Global};
 
@@ -17,6 +17,8 @@ use std::alloc::{AllocError, Global};
 #[derive(Drop)]
 pub(crate) struct Parts {
     pub names: Names,
+    /// Those of a tuple.
+    pub columns: Names,
     pub numbers: Numbers,
     pub terms: Terms,
     pub constant: u128,
@@ -30,6 +32,7 @@ impl Parts {
     {
         Parts {
             names: Items::new(alloc),
+            columns: Items::new(alloc),
             numbers: Items::new(alloc),
             terms: Items::new(alloc),
             constant: 0,
@@ -42,6 +45,14 @@ impl Parts {
     {
         let mut parts = self;
         parts.names.push(name)?;
+        Ok(parts)
+    }
+
+    fn with_column(self, column: Name) -> Result<Parts, AllocError>
+        ensures { IfOk result (λ p. p ≡ with_column self column) }
+    {
+        let mut parts = self;
+        parts.columns.push(column)?;
         Ok(parts)
     }
 
@@ -156,6 +167,29 @@ fn slot_step(
             let parts = parts.with_number(number_of(token)?)?;
             Ok(Draft { slots, parts })
         }
+        Slot::Value => {
+            let parts = parts.with_number(number_of(token)?)?;
+            let slots = slots.with(Slot::ValueEnd)?;
+            Ok(Draft { slots, parts })
+        }
+        Slot::ValueEnd if is_mark(token, b',') => {
+            let slots = slots.with(Slot::Value)?;
+            Ok(Draft { slots, parts })
+        }
+        Slot::Column => {
+            let parts = parts.with_column(name_of(alloc, token)?)?;
+            let slots = slots.with(Slot::ColumnEnd)?;
+            Ok(Draft { slots, parts })
+        }
+        Slot::ColumnEnd if is_mark(token, b',') => {
+            let slots = slots.with(Slot::Column)?;
+            Ok(Draft { slots, parts })
+        }
+        Slot::Selector if is_mark(token, b';') => Ok(Draft { slots, parts }),
+        Slot::Selector if is_word(token, b"if") => {
+            let slots = slots.with(Slot::Mark(b';'))?.with(Slot::Name)?;
+            Ok(Draft { slots, parts })
+        }
         Slot::FirstSummand => summand_step(alloc, Slot::FirstSign, slots, parts, token),
         Slot::FirstSign if is_mark(token, b'+') => {
             let parts = parts.with_constant();
@@ -177,7 +211,10 @@ fn slot_step(
             let slots = slots.with(Slot::Summand)?;
             Ok(Draft { slots, parts })
         }
-        Slot::TermEnd if is_mark(token, b')') => Ok(Draft { slots, parts }),
+        Slot::ValueEnd | Slot::ColumnEnd | Slot::TermEnd if is_mark(token, b')') => Ok(Draft {
+            slots,
+            parts,
+        }),
         _ => Err(Refusal::Unexpected),
     }
 }

@@ -1,11 +1,11 @@
 //! The declarations that are read place by place.
 
 ghost use Rattle.std.specs.Prelude.{◌≡◌, IfOk};
-ghost use Rattle.table_text.specs.Forms.{form_word, form_slots, item_slots, one, shift_parts, pack_parts, form_from, item_from};
+ghost use Rattle.table_text.specs.Forms.{form_word, side_of, form_slots, item_slots, decl_slots, one, shift_parts, name_and_number, flush_names, form_from, item_from, decl_from};
 ghost use Rattle.table_text.specs.Drafts.{draft_at, no_parts};
 ghost use Rattle.table_text.specs.TokenMeaning.{shown};
 
-use crate::decl::{Item, VirtualForm};
+use crate::decl::{Decl, Item, Side, VirtualForm};
 use crate::draft::{Draft, Parts};
 use crate::expr::{Name, Names};
 use crate::slots::Slot;
@@ -27,6 +27,27 @@ pub(crate) enum FormWord {
 #[derive(Drop)]
 pub(crate) enum ItemForm {
     Virtual(Name, FormWord),
+    Flush(Side),
+}
+
+/// A declaration outside of tables that is read place by place.
+#[derive(Clone, Copy)]
+pub(crate) enum DeclForm {
+    Channel,
+    Boundary(Side),
+}
+
+/// The side that a token names.
+pub(crate) fn side_of(token: Token<'_>) -> Option<Side>
+    ensures { result ≡ side_of (shown token.entry) }
+{
+    if is_word(token, b"push") {
+        Some(Side::Push)
+    } else if is_word(token, b"pull") {
+        Some(Side::Pull)
+    } else {
+        None
+    }
 }
 
 /// The form that a token names.
@@ -92,6 +113,26 @@ pub(crate) fn begun_item(alloc: Global, form: &ItemForm) -> Result<Draft, AllocE
 {
     match form {
         ItemForm::Virtual(_, word) => begun_form(alloc, *word),
+        ItemForm::Flush(_) => Draft::new(
+            alloc,
+            &[Slot::Name, Slot::Mark(b'('), Slot::Column, Slot::Selector],
+        ),
+    }
+}
+
+/// Behind the first words of a declaration, which say its form.
+pub(crate) fn begun_decl(alloc: Global, form: DeclForm) -> Result<Draft, AllocError>
+    ensures { IfOk result (λ d. d ≡ draft_at (decl_slots form) no_parts) }
+{
+    match form {
+        DeclForm::Channel => Draft::new(
+            alloc,
+            &[Slot::Name, Slot::Mark(b':'), Slot::Number, Slot::Mark(b';')],
+        ),
+        DeclForm::Boundary(_) => Draft::new(
+            alloc,
+            &[Slot::Name, Slot::Mark(b'('), Slot::Value, Slot::Mark(b';')],
+        ),
     }
 }
 
@@ -112,14 +153,26 @@ fn shift_parts(parts: Parts) -> Option<(Name, u128, u128)>
     Some((column, *first, *second))
 }
 
-fn pack_parts(parts: Parts) -> Option<(Name, u128)>
-    ensures { result ≡ pack_parts parts }
+fn name_and_number(parts: Parts) -> Option<(Name, u128)>
+    ensures { result ≡ name_and_number parts }
 {
-    let column = one(parts.names)?;
-    let [log] = parts.numbers.as_slice() else {
+    let name = one(parts.names)?;
+    let [number] = parts.numbers.as_slice() else {
         return None;
     };
-    Some((column, *log))
+    Some((name, *number))
+}
+
+/// A channel, and a selector if there is one.
+fn flush_names(mut names: Names) -> Option<(Name, Option<Name>)>
+    ensures { result ≡ flush_names names }
+{
+    if names.len() == 2 {
+        let selector = names.pop();
+        Some((one(names)?, selector))
+    } else {
+        Some((one(names)?, None))
+    }
 }
 
 /// The form of a virtual column, of which all was read.
@@ -156,7 +209,7 @@ fn form_from(word: FormWord, parts: Parts) -> Option<VirtualForm>
             VirtualForm::Project { column, log, index }
         }
         FormWord::Pack => {
-            let (column, log) = pack_parts(parts)?;
+            let (column, log) = name_and_number(parts)?;
             VirtualForm::Pack { column, log }
         }
         FormWord::Linear => {
@@ -179,6 +232,35 @@ pub(crate) fn item_from(form: ItemForm, parts: Parts) -> Option<Item>
         ItemForm::Virtual(name, word) => {
             let form = form_from(word, parts)?;
             Some(Item::Virtual { name, form })
+        }
+        ItemForm::Flush(side) => {
+            let (channel, selector) = flush_names(parts.names)?;
+            Some(Item::Flush {
+                side,
+                channel,
+                columns: parts.columns,
+                selector,
+            })
+        }
+    }
+}
+
+/// A declaration of which all was read.
+pub(crate) fn decl_from(form: DeclForm, parts: Parts) -> Option<Decl>
+    ensures { result ≡ decl_from form parts }
+{
+    match form {
+        DeclForm::Channel => {
+            let (name, width) = name_and_number(parts)?;
+            Some(Decl::Channel { name, width })
+        }
+        DeclForm::Boundary(side) => {
+            let channel = one(parts.names)?;
+            Some(Decl::Boundary {
+                side,
+                channel,
+                values: parts.numbers,
+            })
         }
     }
 }

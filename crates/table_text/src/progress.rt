@@ -9,7 +9,7 @@ use crate::fault::{TextFault, TextKind, TextStop};
 use crate::limits::{MAX_DECLARATIONS, MAX_OPEN};
 use crate::refusal::Refusal;
 use crate::state::{State, is_file_stage, start, step};
-use crate::token::{Token, begins_declaration, is_mark, own_fault};
+use crate::token::{Token, begins_declaration, is_boundary, is_mark, own_fault};
 use std::alloc::Global;
 
 /// What was read, how many parentheses were opened and closed in it, and how many declarations were begun.
@@ -19,6 +19,8 @@ pub(crate) struct Progress {
     pub opened: usize,
     pub closed: usize,
     pub begun: usize,
+    /// Whether the last token was `boundary`.
+    pub behind_boundary: bool,
 }
 
 /// Before the first token.
@@ -30,6 +32,7 @@ pub(crate) fn begin(alloc: Global) -> Progress
         opened: 0,
         closed: 0,
         begun: 0,
+        behind_boundary: false,
     }
 }
 
@@ -40,7 +43,9 @@ fn limit_fault(progress: &Progress, token: Token<'_>) -> Option<TextKind>
     let open = progress.opened.saturating_sub(progress.closed);
     if is_mark(token, b'(') && MAX_OPEN <= open {
         Some(TextKind::TooDeep)
-    } else if begins_declaration(token) && MAX_DECLARATIONS <= progress.begun {
+    } else if begins_declaration(progress.behind_boundary, token)
+        && MAX_DECLARATIONS <= progress.begun
+    {
         Some(TextKind::TooMany)
     } else {
         None
@@ -82,6 +87,7 @@ fn taken(
         opened,
         closed,
         begun,
+        behind_boundary,
     } = progress;
     let state = match step(alloc, state, token) {
         Ok(state) => state,
@@ -95,7 +101,8 @@ fn taken(
         state,
         opened: counted(opened, is_mark(token, b'(')),
         closed: counted(closed, is_mark(token, b')')),
-        begun: counted(begun, begins_declaration(token)),
+        begun: counted(begun, begins_declaration(behind_boundary, token)),
+        behind_boundary: is_boundary(token),
     })
 }
 

@@ -13,6 +13,16 @@ pub(crate) enum Slot {
     Mark(u8),
     Name,
     Number,
+    /// A number of a tuple.
+    Value,
+    /// Behind a number of a tuple: `,` and the next one, or `)`.
+    ValueEnd,
+    /// A column of a tuple.
+    Column,
+    /// Behind a column of a tuple: `,` and the next one, or `)`.
+    ColumnEnd,
+    /// `;`, or `if`, a name and `;`.
+    Selector,
     /// The constant of a linear form, or its first term.
     FirstSummand,
     /// Behind the first number of a linear form: `+` behind the constant, `*` behind a coefficient.

@@ -1,13 +1,15 @@
 //! A text that is being read.
 
 ghost use Rattle.std.specs.Prelude.{◌≡◌};
-ghost use Rattle.table_text.specs.Machine.{start, step, is_file_stage};
+ghost use Rattle.table_text.specs.Machine.{start, decl_settled, step, is_file_stage};
 ghost use Rattle.table_text.specs.TokenMeaning.{shown};
 ghost use Rattle.table_text.specs.StepMeaning.{IsStepTo};
 
 use crate::body::{Body, ItemStage, body_step, is_start};
 use crate::decl::{Decl, Decls};
+use crate::draft::Draft;
 use crate::expr::Name;
+use crate::forms::{DeclForm, begun_decl, decl_from, side_of};
 use crate::refusal::Refusal;
 use crate::token::{Token, is_mark, is_word, name_of};
 use sqlite_items::Items;
@@ -16,8 +18,10 @@ use std::alloc::Global;
 /// What comes next in a text.
 #[derive(Drop)]
 pub(crate) enum Stage {
-    /// A table, or the end.
+    /// A declaration, or the end.
     File,
+    BoundarySide,
+    Drafting(DeclForm, Draft),
     TableName,
     TableBrace(Name),
     Table(Name, Body),
@@ -47,6 +51,23 @@ pub(crate) fn is_file_stage(stage: &Stage) -> bool
     matches!(stage, Stage::File)
 }
 
+/// Where something was read of a declaration, which is done or goes on.
+fn settled(mut decls: Decls, form: DeclForm, draft: Draft) -> Result<State, Refusal>
+    ensures { IsStepTo result (decl_settled decls form draft) }
+{
+    if draft.slots.is_empty() {
+        let Some(decl) = decl_from(form, draft.parts) else {
+            return Err(Refusal::Unexpected);
+        };
+        decls.push(decl)?;
+        let stage = Stage::File;
+        Ok(State { decls, stage })
+    } else {
+        let stage = Stage::Drafting(form, draft);
+        Ok(State { decls, stage })
+    }
+}
+
 /// A state after one token more.
 pub(crate) fn step(alloc: Global, state: State, token: Token<'_>) -> Result<State, Refusal>
     ensures { IsStepTo result (step state (shown token.entry)) }
@@ -57,6 +78,24 @@ pub(crate) fn step(alloc: Global, state: State, token: Token<'_>) -> Result<Stat
             let stage = Stage::TableName;
             Ok(State { decls, stage })
         }
+        Stage::File if is_word(token, b"channel") => {
+            let form = DeclForm::Channel;
+            let stage = Stage::Drafting(form, begun_decl(alloc, form)?);
+            Ok(State { decls, stage })
+        }
+        Stage::File if is_word(token, b"boundary") => {
+            let stage = Stage::BoundarySide;
+            Ok(State { decls, stage })
+        }
+        Stage::BoundarySide => {
+            let Some(side) = side_of(token) else {
+                return Err(Refusal::Unexpected);
+            };
+            let form = DeclForm::Boundary(side);
+            let stage = Stage::Drafting(form, begun_decl(alloc, form)?);
+            Ok(State { decls, stage })
+        }
+        Stage::Drafting(form, draft) => settled(decls, form, draft.step(alloc, token)?),
         Stage::TableName => {
             let stage = Stage::TableBrace(name_of(alloc, token)?);
             Ok(State { decls, stage })

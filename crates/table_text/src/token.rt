@@ -3,7 +3,7 @@
 ghost use Rattle.std.specs.Prelude.{◌≡◌, option_and_then};
 ghost use Rattle.std.specs.List.{list_any};
 ghost use Rattle.std.specs.Str.{bytes_eq};
-ghost use Rattle.table_text.specs.Faults.{is_mark_of, begins_declaration, own_fault, unbuilt_words};
+ghost use Rattle.table_text.specs.Faults.{is_mark_of, is_one_of, is_boundary, declaration_words, side_words, begins_declaration, own_fault, unbuilt_words};
 ghost use Rattle.table_text.specs.TokenClasses.{is_word, level_of, log_values_of, name_of, number_in};
 ghost use Rattle.table_text.specs.TokenMeaning.{shown};
 ghost use Rattle.table_text.specs.StepMeaning.{IsStepTo};
@@ -44,19 +44,43 @@ pub(crate) fn is_word(token: Token<'_>, word: &[u8]) -> bool
     }
 }
 
-/// Whether a declaration begins with a token.
-pub(crate) fn begins_declaration(token: Token<'_>) -> bool
-    ensures { result ≡ begins_declaration (shown token.entry) }
+/// Whether a token is the word `boundary`.
+pub(crate) fn is_boundary(token: Token<'_>) -> bool
+    ensures { result ≡ is_boundary (shown token.entry) }
+{
+    is_word(token, b"boundary")
+}
+
+fn is_declaration_word(token: Token<'_>) -> bool
+    ensures { result ≡ is_one_of declaration_words (shown token.entry) }
 {
     match token {
         Token::Reserved(word) => {
-            word == b"table".as_slice()
+            word == b"channel".as_slice()
+                || word == b"boundary".as_slice()
+                || word == b"table".as_slice()
                 || word == b"column".as_slice()
                 || word == b"virtual".as_slice()
                 || word == b"zero".as_slice()
         }
         _ => false,
     }
+}
+
+fn is_side(token: Token<'_>) -> bool
+    ensures { result ≡ is_one_of side_words (shown token.entry) }
+{
+    match token {
+        Token::Reserved(word) => word == b"push".as_slice() || word == b"pull".as_slice(),
+        _ => false,
+    }
+}
+
+/// Whether a declaration begins with a token, which stands behind `boundary` or not.
+pub(crate) fn begins_declaration(behind_boundary: bool, token: Token<'_>) -> bool
+    ensures { result ≡ begins_declaration behind_boundary (shown token.entry) }
+{
+    is_declaration_word(token) || is_side(token) && !behind_boundary
 }
 
 /// What is wrong with a token wherever it stands.
