@@ -1,11 +1,13 @@
 -- How many bits columns and tables take, summed from the first on.
-use Rattle.std.proofs.Common.{◌≡◌, ℕ, ◌+◌, ◌*◌, ◌%◌, ◌^◌, ◌<◌, ◌≤◌, List, ◌∷◌, length, drop, get_or, refl, sym, ap, subst, ◌∙◌, arith}
+use Rattle.std.proofs.Common.{◌≡◌, ℕ, zero, suc, ◌+◌, ◌*◌, ◌%◌, ◌^◌, ◌<◌, ◌≤◌, List, [], ◌∷◌, length, drop, get_or, Some, refl, sym, ap, subst, ◌∙◌, arith}
+use Rattle.std.specs.List.{slice_get}
 use Rattle.std.proofs.lemmas.List.{drop_more, drop_all}
 use Rattle.std.proofs.lemmas.Nat.{one_shl, shl_whole, mul-le}
 use Rattle.std.proofs.Math.Nat.{pow-le-pow_right}
 use Rattle.table_shape.specs.declared.shape.ColumnShape.{ColumnShape}
 use Rattle.table_shape.specs.declared.shape.TableShape.{TableShape}
-use Rattle.table_shape.specs.Shape.{ColumnsFit, TableFits, TablesFit}
+use Rattle.table_shape.specs.Fits.{AreSized, TableFits, ShapeFits}
+use Rattle.table_shape.specs.Parts.{ShapeParts}
 use Rattle.table_shape.specs.Size.{ceil_log, column_bits, columns_bits, tables_bits}
 use Rattle.table_shape.proofs.CeilLog.{at_most}
 
@@ -28,9 +30,13 @@ rows_shift_is r rows v l e few a b =
 
 -- ---- columns
 
-pub column_here : (i : ℕ) (columns : List ColumnShape) (column : ColumnShape) → i < length columns → column ≡ get_or columns i column → ColumnsFit (drop i columns)
-    → (column.level ≤ 7) × (column.log_values ≤ 7) × ColumnsFit (drop (i + 1) columns)
-column_here i columns column h e fit = subst ColumnsFit (drop_here columns i column h e) fit
+pub item_here : {X : Type 0} (xs : List X) (i : ℕ) (x : X) → i < length xs → x ≡ get_or xs i x → slice_get xs i ≡ Some x
+item_here [] i x h e = absurd (omega arith)
+item_here (y ∷ xs) zero x h e = ap Some (sym e)
+item_here (y ∷ xs) (suc i) x h e = item_here xs i x (omega arith) e
+
+pub column_here : (i : ℕ) (columns : List ColumnShape) (column : ColumnShape) → i < length columns → column ≡ get_or columns i column → AreSized columns → (column.level ≤ 7) × (column.log_values ≤ 7)
+column_here i columns column h e fit = fit i column (item_here columns i column h e)
 
 pub columns_more : (rows i : ℕ) (columns : List ColumnShape) (column : ColumnShape) → i < length columns → column ≡ get_or columns i column
     → columns_bits rows (drop i columns) ≡ column_bits rows column + columns_bits rows (drop (i + 1) columns)
@@ -41,9 +47,12 @@ columns_done rows i columns h = ap (columns_bits rows) (drop_all i columns h)
 
 -- ---- tables
 
-pub table_here : (i : ℕ) (tables : List TableShape) (table : TableShape) → i < length tables → table ≡ get_or tables i table → TablesFit (drop i tables)
-    → TableFits table × TablesFit (drop (i + 1) tables)
-table_here i tables table h e fit = subst TablesFit (drop_here tables i table h e) fit
+pub table_at : (i : ℕ) (shape : ShapeParts) (tables : List TableShape) (table : TableShape) → tables ≡ shape.tables → i < length tables → table ≡ get_or tables i table → ShapeFits shape
+    → (length table.columns ≤ 256) × AreSized table.columns
+table_at i shape tables table all h e fit =
+    let at = subst (λ (ts : List TableShape). slice_get ts i ≡ Some table) all (item_here tables i table h e) in
+    let one = fit.tables i table at in
+    (one.few_columns, λ c column is. ((one.columns c column is).level, (one.columns c column is).log_values))
 
 pub tables_more : (i : ℕ) (tables : List TableShape) (rows : List ℕ) (table : TableShape) → i < length tables → table ≡ get_or tables i table → i < length rows
     → tables_bits (drop i tables) (drop i rows) ≡ columns_bits (get_or rows i 0) table.columns + tables_bits (drop (i + 1) tables) (drop (i + 1) rows)

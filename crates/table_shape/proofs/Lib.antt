@@ -1,7 +1,14 @@
 pub mod AndThenSteps
 pub mod Names
-pub mod ShapeSteps
-pub mod MeantShape
 pub mod CeilLog
 pub mod Bits
-pub mod Fits
+pub mod LeastLevel
+pub mod FormSteps
+pub mod WidthSteps
+pub mod Differ
+pub mod FitsSteps
+pub mod FormFits
+pub mod VirtualSteps
+pub mod ConstraintSteps
+pub mod Passed
+pub mod TableSteps

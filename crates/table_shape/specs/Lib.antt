@@ -1,10 +1,14 @@
 pub mod AndThen
 pub mod Limits
-pub mod Size
 pub mod Value
+pub mod Width
+pub mod Forms
+pub mod Parts
+pub mod Fits
 pub mod Shape
+pub mod Checked
 pub mod ShapeGives
-pub mod ShapeMeaning
 pub mod Names
+pub mod Size
 pub mod Filling
 pub mod Satisfies

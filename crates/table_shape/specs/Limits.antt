@@ -14,6 +14,10 @@ max_columns = 256
 abbrev pub max_constraints : ℕ
 max_constraints = 256
 
+-- the most terms of a linear column
+abbrev pub max_terms : ℕ
+max_terms = 64
+
 -- the greatest degree of a constraint
 abbrev pub max_degree : ℕ
 max_degree = 8

@@ -1,17 +1,25 @@
 -- The shape of tables: their names resolved, and the first fault of those that have none.
 -- Source: docs/LANGUAGE.md, "What a file means"; docs/FORMATS.md, "Limits".
-use Rattle.std.specs.Prelude.{ℕ, ◌+◌, ◌≤◌, nat_lt, nat_le, if◌then◌else◌, List, [], ◌∷◌, ◌++◌, length, map, Option, Some, None, option_map, Result, Ok, Err}
-use Rattle.std.specs.List.{list_any, position_from}
+use Rattle.std.specs.Prelude.{ℕ, ◌+◌, ◌-◌, ◌^◌, ◌==◌, ◌||◌, Bool, true, false, not, nat_lt, nat_le, if◌then◌else◌, List, [], ◌∷◌, ◌++◌, length, map, Option, Some, None, option_map, Result, Ok, Err}
+use Rattle.std.specs.List.{list_any, list_all, position_from}
 use Rattle.std.specs.Str.{bytes_eq}
 use Rattle.table_text.specs.declared.expr.Expr.{Expr}
 use Rattle.table_text.specs.declared.expr.Expr.TheOpen.{Expr-F}
 use Rattle.table_text.specs.declared.expr.Expr.TheFolds.{fold-Expr}
+use Rattle.table_text.specs.declared.decl.Term.{Term}
+use Rattle.table_text.specs.declared.decl.VirtualForm.{VirtualForm}
+use Rattle.table_text.specs.declared.decl.VirtualForm.TheVariants as virtual
 use Rattle.table_text.specs.declared.decl.Item.{Item}
 use Rattle.table_text.specs.declared.decl.Item.TheVariants as item
 use Rattle.table_text.specs.declared.decl.Decl.{Decl}
 use Rattle.table_text.specs.declared.decl.Decl.TheVariants as decl
-use Rattle.table_text.specs.Limits.{max_level, max_log_values}
-use Rattle.table_shape.specs.Limits.{max_tables, max_columns, max_constraints, max_degree}
+use Rattle.table_text.specs.Limits.{max_level}
+use Rattle.table_shape.specs.Limits.{max_tables, max_columns, max_constraints, max_terms, max_degree}
+use Rattle.table_shape.specs.declared.shape.ShapeTerm.{ShapeTerm}
+use Rattle.table_shape.specs.declared.shape.ShapeForm.{ShapeForm}
+use Rattle.table_shape.specs.declared.shape.ShapeForm.TheVariants as form
+use Rattle.table_shape.specs.declared.shape.ColumnKind.{ColumnKind}
+use Rattle.table_shape.specs.declared.shape.ColumnKind.TheVariants.{Committed, Virtual}
 use Rattle.table_shape.specs.declared.shape.ColumnShape.{ColumnShape}
 use Rattle.table_shape.specs.declared.shape.ShapeExpr.{ShapeExpr}
 use Rattle.table_shape.specs.declared.shape.ShapeExpr.TheVariants as shaped
@@ -19,9 +27,12 @@ use Rattle.table_shape.specs.declared.shape.ConstraintShape.{ConstraintShape}
 use Rattle.table_shape.specs.declared.shape.TableShape.{TableShape}
 use Rattle.table_shape.specs.declared.fault.ShapeFault.{ShapeFault}
 use Rattle.table_shape.specs.declared.fault.ShapeKind.{ShapeKind}
-use Rattle.table_shape.specs.declared.fault.ShapeKind.TheVariants.{UnknownName, DoubleName, DegreeTooHigh, TooMany, NotBuilt}
+use Rattle.table_shape.specs.declared.fault.ShapeKind.TheVariants.{UnknownName, DoubleName, LevelTooHigh, UnequalWidth, BlockTooLong, OffsetOutOfRange, RepeatedTerm, DegreeTooHigh, TooMany, NotBuilt}
 use Rattle.table_shape.specs.AndThen.{◌>>=◌}
 use Rattle.table_shape.specs.Value.{degree}
+use Rattle.table_shape.specs.Width.{log_values_at, width, has_width}
+use Rattle.table_shape.specs.Forms.{level_at, linear_level}
+use Rattle.table_shape.specs.Parts.{ShapeParts}
 
 -- the number of the column with this name
 abbrev pub number_of_name : List ℕ → List ColumnShape → Option ℕ
@@ -54,26 +65,114 @@ abbrev pub with_column : ℕ → List ℕ → ℕ → ℕ → TableShape → Res
 with_column k name level log_values table =
     if nat_le max_columns (length table.columns) then fault k TooMany
     else (if list_any (λ c. bytes_eq name c.name) table.columns then fault k DoubleName
-    else Ok (record table { columns = table.columns ++ record { name = name; level = level; log_values = log_values } ∷ [] }))
+    else Ok (record table { columns = table.columns ++ record { name = name; level = level; log_values = log_values; kind = Committed } ∷ [] }))
 
--- a constraint by the degree of its expression, which stands where each column's name is known
-abbrev pub with_degree : ℕ → List ℕ → TableShape → Option ShapeExpr → Result TableShape ShapeFault
-with_degree k name table None = fault k UnknownName
-with_degree k name table (Some expr) =
-    if nat_lt max_degree (degree expr) then fault k DegreeTooHigh
-    else Ok (record table { constraints = table.constraints ++ record { name = name; log_values = 0; degree = degree expr; expr = expr } ∷ [] })
+-- ---- virtual columns
+
+abbrev pub resolved_term : List ColumnShape → Term → Option ShapeTerm
+resolved_term columns t = option_map (λ c. record { coefficient = t.coefficient; column = c }) (number_of_name t.column columns)
+
+-- a form with numbers of columns in place of names, where each name is known
+abbrev pub resolved_form : List ColumnShape → VirtualForm → Option ShapeForm
+resolved_form columns (virtual.Shl name b o) = option_map (λ c. form.Shl c b o) (number_of_name name columns)
+resolved_form columns (virtual.Shr name b o) = option_map (λ c. form.Shr c b o) (number_of_name name columns)
+resolved_form columns (virtual.Rol name b o) = option_map (λ c. form.Rol c b o) (number_of_name name columns)
+resolved_form columns (virtual.Pack name k) = option_map (λ c. form.Pack c k) (number_of_name name columns)
+resolved_form columns (virtual.Project name k j) = option_map (λ c. form.Project c k j) (number_of_name name columns)
+resolved_form columns (virtual.Linear k0 terms) = option_map (λ ts. form.Linear k0 ts) (all_some (map (resolved_term columns) terms))
+
+abbrev pub terms_of : VirtualForm → List Term
+terms_of (virtual.Shl name b o) = []
+terms_of (virtual.Shr name b o) = []
+terms_of (virtual.Rol name b o) = []
+terms_of (virtual.Pack name k) = []
+terms_of (virtual.Project name k j) = []
+terms_of (virtual.Linear k0 terms) = terms
+
+-- whether a column stands in two terms
+abbrev pub repeats : List ShapeTerm → Bool
+repeats [] = false
+repeats (t ∷ terms) = list_any (λ (u : ShapeTerm). t.column == u.column) terms || repeats terms
+
+-- the logarithm of the values per row of the first term's column
+abbrev pub terms_width : List ColumnShape → List ShapeTerm → ℕ
+terms_width columns [] = 0
+terms_width columns (t ∷ terms) = log_values_at columns t.column
+
+-- the kind of the first check that holds
+abbrev pub first_fault : List (Bool × ShapeKind) → Option ShapeKind
+first_fault [] = None
+first_fault (check ∷ checks) = if check.0 then Some check.1 else first_fault checks
+
+-- blocks of 2 ^ b values are no longer than a row, and o is a place in them
+abbrev pub block_checks : ℕ → ℕ → ℕ → List (Bool × ShapeKind)
+block_checks v b o = (nat_lt v b, BlockTooLong) ∷ (not (nat_lt o (2 ^ b)), OffsetOutOfRange) ∷ []
+
+-- what may be wrong with a form over known columns, in order
+abbrev pub form_checks : List ColumnShape → ShapeForm → List (Bool × ShapeKind)
+form_checks columns (form.Shl c b o) = block_checks (log_values_at columns c) b o
+form_checks columns (form.Shr c b o) = block_checks (log_values_at columns c) b o
+form_checks columns (form.Rol c b o) = block_checks (log_values_at columns c) b o
+form_checks columns (form.Pack c k) = (nat_lt (log_values_at columns c) k, BlockTooLong) ∷ (nat_lt max_level (level_at columns c + k), LevelTooHigh) ∷ []
+form_checks columns (form.Project c k j) = block_checks (log_values_at columns c) k j
+form_checks columns (form.Linear k0 terms) = (repeats terms, RepeatedTerm) ∷ (not (list_all (λ (t : ShapeTerm). log_values_at columns t.column == terms_width columns terms) terms), UnequalWidth) ∷ []
+
+-- the level of a form's values
+abbrev pub form_level : List ColumnShape → ShapeForm → ℕ
+form_level columns (form.Shl c b o) = level_at columns c
+form_level columns (form.Shr c b o) = level_at columns c
+form_level columns (form.Rol c b o) = level_at columns c
+form_level columns (form.Pack c k) = level_at columns c + k
+form_level columns (form.Project c k j) = level_at columns c
+form_level columns (form.Linear k0 terms) = linear_level columns k0 terms
+
+-- the logarithm of how many there are per row
+abbrev pub form_log_values : List ColumnShape → ShapeForm → ℕ
+form_log_values columns (form.Shl c b o) = log_values_at columns c
+form_log_values columns (form.Shr c b o) = log_values_at columns c
+form_log_values columns (form.Rol c b o) = log_values_at columns c
+form_log_values columns (form.Pack c k) = log_values_at columns c - k
+form_log_values columns (form.Project c k j) = log_values_at columns c - k
+form_log_values columns (form.Linear k0 terms) = terms_width columns terms
+
+-- the table with a column of this form, once its checks are through
+abbrev pub with_form : ℕ → List ℕ → TableShape → ShapeForm → Option ShapeKind → Result TableShape ShapeFault
+with_form k name table f (Some kind) = fault k kind
+with_form k name table f None = Ok (record table { columns = table.columns ++ record { name = name; level = form_level table.columns f; log_values = form_log_values table.columns f; kind = Virtual f } ∷ [] })
+
+-- a form stands where each column's name is known
+abbrev pub with_resolved_form : ℕ → List ℕ → TableShape → Option ShapeForm → Result TableShape ShapeFault
+with_resolved_form k name table None = fault k UnknownName
+with_resolved_form k name table (Some f) = with_form k name table f (first_fault (form_checks table.columns f))
+
+-- the table with a virtual column more
+abbrev pub with_virtual : ℕ → List ℕ → VirtualForm → TableShape → Result TableShape ShapeFault
+with_virtual k name f table =
+    if nat_le max_columns (length table.columns) || nat_lt max_terms (length (terms_of f)) then fault k TooMany
+    else (if list_any (λ c. bytes_eq name c.name) table.columns then fault k DoubleName
+    else with_resolved_form k name table (resolved_form table.columns f))
+
+-- ---- constraints
+
+-- a constraint by its expression, which stands where each column's name is known
+abbrev pub with_expr : ℕ → List ℕ → TableShape → Option ShapeExpr → Result TableShape ShapeFault
+with_expr k name table None = fault k UnknownName
+with_expr k name table (Some expr) =
+    if not (has_width table.columns (width table.columns expr) expr) then fault k UnequalWidth
+    else (if nat_lt max_degree (degree expr) then fault k DegreeTooHigh
+    else Ok (record table { constraints = table.constraints ++ record { name = name; log_values = width table.columns expr; degree = degree expr; expr = expr } ∷ [] }))
 
 -- the table with a constraint more
 abbrev pub with_constraint : ℕ → List ℕ → Expr → TableShape → Result TableShape ShapeFault
 with_constraint k name expr table =
     if nat_le max_constraints (length table.constraints) then fault k TooMany
     else (if list_any (λ z. bytes_eq name z.name) table.constraints then fault k DoubleName
-    else with_degree k name table (resolved table.columns expr))
+    else with_expr k name table (resolved table.columns expr))
 
 abbrev pub with_item : ℕ → Item → TableShape → Result TableShape ShapeFault
 with_item k (item.Column name level log_values) table = with_column k name level log_values table
 with_item k (item.Zero name expr) table = with_constraint k name expr table
-with_item k (item.Virtual name form) table = fault k NotBuilt
+with_item k (item.Virtual name f) table = with_virtual k name f table
 with_item k (item.Flush side channel columns selector) table = fault k NotBuilt
 
 -- the table with these items, numbered from k on
@@ -99,26 +198,5 @@ tables_of k (decl.Channel name width ∷ decls) tables = fault k NotBuilt
 tables_of k (decl.Boundary side channel values ∷ decls) tables = fault k NotBuilt
 
 -- the shape of declarations, or the first fault, the checks of each declaration in their order
-abbrev pub shape_of : List Decl → Result (List TableShape) ShapeFault
-shape_of decls = tables_of 0 decls []
-
--- ---- what each shape keeps
-
-abbrev pub ColumnsFit : List ColumnShape → Type 0
-ColumnsFit [] = Unit {0}
-ColumnsFit (c ∷ columns) = (c.level ≤ max_level) × (c.log_values ≤ max_log_values) × ColumnsFit columns
-
-abbrev pub ConstraintsFit : List ConstraintShape → Type 0
-ConstraintsFit [] = Unit {0}
-ConstraintsFit (z ∷ constraints) = (z.log_values ≤ max_log_values) × ConstraintsFit constraints
-
--- levels and the logarithms of numbers of values are within their limits
-pub record TableFits (table : TableShape) : Type 0 where
-  pub few : length table.columns ≤ max_columns
-  pub few_constraints : length table.constraints ≤ max_constraints
-  pub columns : ColumnsFit table.columns
-  pub constraints : ConstraintsFit table.constraints
-
-abbrev pub TablesFit : List TableShape → Type 0
-TablesFit [] = Unit {0}
-TablesFit (table ∷ tables) = TableFits table × TablesFit tables
+abbrev pub shape_of : List Decl → Result ShapeParts ShapeFault
+shape_of decls = tables_of 0 decls [] >>= (λ tables. Ok (record { tables = tables }))

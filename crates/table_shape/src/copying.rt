@@ -3,8 +3,8 @@
 ghost use Rattle.std.specs.Prelude.{◌≡◌, IfOk};
 
 use crate::shape::{
-    ColumnShape, ColumnShapes, ConstraintShape, ConstraintShapes, ShapeExpr, ShapeExprs,
-    TableShape, TableShapes,
+    ColumnKind, ColumnShape, ColumnShapes, ConstraintShape, ConstraintShapes, ShapeExpr,
+    ShapeExprs, ShapeForm, ShapeTerm, ShapeTerms, TableShape, TableShapes,
 };
 use sqlite_items::Items;
 use std::alloc::{AllocError, Global};
@@ -16,16 +16,87 @@ pub(crate) fn copied_name(alloc: Global, name: &Name) -> Result<Name, AllocError
     Items::from_slice(alloc, name.as_slice())
 }
 
+fn copied_terms(alloc: Global, terms: &[ShapeTerm]) -> Result<ShapeTerms, AllocError>
+    ensures { IfOk result (λ copy. copy ≡ terms.now) }
+{
+    let mut copies = Items::new(alloc);
+    for term in terms {
+        copies.push(ShapeTerm {
+            coefficient: term.coefficient,
+            column: term.column,
+        })?;
+    }
+    Ok(copies)
+}
+
+fn copied_form(alloc: Global, form: &ShapeForm) -> Result<ShapeForm, AllocError>
+    ensures { IfOk result (λ copy. copy ≡ form.now) }
+{
+    match form {
+        ShapeForm::Shl {
+            column,
+            block,
+            offset,
+        } => Ok(ShapeForm::Shl {
+            column: *column,
+            block: *block,
+            offset: *offset,
+        }),
+        ShapeForm::Shr {
+            column,
+            block,
+            offset,
+        } => Ok(ShapeForm::Shr {
+            column: *column,
+            block: *block,
+            offset: *offset,
+        }),
+        ShapeForm::Rol {
+            column,
+            block,
+            offset,
+        } => Ok(ShapeForm::Rol {
+            column: *column,
+            block: *block,
+            offset: *offset,
+        }),
+        ShapeForm::Pack { column, log } => Ok(ShapeForm::Pack {
+            column: *column,
+            log: *log,
+        }),
+        ShapeForm::Project { column, log, index } => Ok(ShapeForm::Project {
+            column: *column,
+            log: *log,
+            index: *index,
+        }),
+        ShapeForm::Linear { constant, terms } => Ok(ShapeForm::Linear {
+            constant: *constant,
+            terms: copied_terms(alloc, terms.as_slice())?,
+        }),
+    }
+}
+
+fn copied_kind(alloc: Global, kind: &ColumnKind) -> Result<ColumnKind, AllocError>
+    ensures { IfOk result (λ copy. copy ≡ kind.now) }
+{
+    match kind {
+        ColumnKind::Committed => Ok(ColumnKind::Committed),
+        ColumnKind::Virtual(form) => Ok(ColumnKind::Virtual(copied_form(alloc, form)?)),
+    }
+}
+
 fn copied_columns(alloc: Global, columns: &[ColumnShape]) -> Result<ColumnShapes, AllocError>
     ensures { IfOk result (λ copy. copy ≡ columns.now) }
 {
     let mut copies = Items::new(alloc);
     for column in columns {
         let name = copied_name(alloc, &column.name)?;
+        let kind = copied_kind(alloc, &column.kind)?;
         copies.push(ColumnShape {
             name,
             level: column.level,
             log_values: column.log_values,
+            kind,
         })?;
     }
     Ok(copies)

@@ -1,5 +1,7 @@
 //! What may be wrong with declarations.
 
+ghost use Rattle.std.specs.Prelude.{◌≡◌, Err};
+
 use std::alloc::AllocError;
 
 /// What is wrong with a declaration.
@@ -9,9 +11,19 @@ pub enum ShapeKind {
     UnknownName,
     /// A table, a column of a table or a constraint of a table of a name that an earlier one has.
     DoubleName,
+    /// Packed values of more than 128 bits.
+    LevelTooHigh,
+    /// An expression or a sum over columns of different numbers of values per row.
+    UnequalWidth,
+    /// Blocks of more values than a row has.
+    BlockTooLong,
+    /// An offset or an index that is no place in its block.
+    OffsetOutOfRange,
+    /// A column twice in a sum.
+    RepeatedTerm,
     /// An expression of degree above 8.
     DegreeTooHigh,
-    /// A 65th table, or a 257th column or constraint of a table.
+    /// A 65th table, a 257th column or constraint of a table, or a 65th term of a sum.
     TooMany,
     /// A form that isn't read yet.
     NotBuilt,
@@ -39,4 +51,10 @@ impl From<AllocError> for ShapeStop {
     fn from(_failed: AllocError) -> ShapeStop {
         ShapeStop::NoMemory
     }
+}
+
+pub(crate) fn refused<T>(item: u32, kind: ShapeKind) -> Result<T, ShapeStop>
+    ensures { result ≡ Err (ShapeStop.Fault (record { item = item; kind = kind })) }
+{
+    Err(ShapeStop::Fault(ShapeFault { item, kind }))
 }

@@ -9,6 +9,12 @@ pub const MAX_COLUMNS: usize = 256;
 /// The most constraints of a table.
 pub const MAX_CONSTRAINTS: usize = 256;
 
+/// The most terms of a linear column.
+pub const MAX_TERMS: usize = 64;
+
+/// The greatest level.
+pub const MAX_LEVEL: u32 = 7;
+
 /// The greatest degree of a constraint.
 pub const MAX_DEGREE: u32 = 8;
 

@@ -3,7 +3,7 @@
 ghost use Rattle.table_shape.specs.Limits.{max_columns, max_rows};
 ghost use Rattle.std.specs.Prelude.{◌≡◌, ℕ, ◌*◌, ◌^◌, ◌<◌, ◌≤◌, length, slice_index};
 ghost use Rattle.table_shape.specs.Size.{ceil_log, columns_bits, size_log};
-ghost use Rattle.table_shape.specs.Shape.{ColumnsFit};
+ghost use Rattle.table_shape.specs.Fits.{AreSized};
 
 use crate::shape::{ColumnShape, Shape};
 
@@ -23,7 +23,7 @@ pub fn ceil_log_is_least()
 fn columns_bits(rows: u32, columns: &[ColumnShape]) -> u64
     requires rows_few { rows ≤ max_rows }
     requires few { length columns.now ≤ max_columns }
-    requires fit { ColumnsFit columns.now }
+    requires fit { AreSized columns.now }
     ensures value { result ≡ columns_bits rows columns.now }
     ensures bound { result ≤ 2 ^ 42 }
 {
@@ -37,9 +37,9 @@ fn columns_bits(rows: u32, columns: &[ColumnShape]) -> u64
 
 /// The least `e` such that the columns of all tables take at most `2 ^ e` bits.
 pub fn size_log(shape: &Shape, rows: &[u32]) -> u32
-    requires counts { length rows.now ≡ length shape.now }
+    requires counts { length rows.now ≡ length shape.now.tables }
     requires few { (t : ℕ) → slice_index rows.now t ≤ max_rows }
-    ensures { result ≡ size_log shape.now rows.now }
+    ensures { result ≡ size_log shape.now.tables rows.now }
 {
     let mut bits = 0;
     for (t, table) in shape.tables().iter().enumerate() {

@@ -1,15 +1,18 @@
-use Rattle.std.proofs.Common.{length, ap, arith, subst, sym, length-append, List}
+use Rattle.std.proofs.Common.{◌≡◌, false, List, subst, sym, ap, ◌∙◌, arith}
+use Rattle.std.specs.List.{list_any}
+use Rattle.std.specs.Str.{bytes_eq}
+use Rattle.table_shape.specs.declared.shape.ColumnKind.TheVariants.{Committed}
 use Rattle.table_shape.specs.declared.shape.ColumnShape.{ColumnShape}
-use Rattle.table_shape.specs.Shape.{ColumnsFit}
-use Rattle.table_shape.proofs.ShapeSteps.{ColumnsFit-push}
+use Rattle.table_shape.specs.Fits.{TableFits}
+use Rattle.table_shape.proofs.FitsSteps.{column_pushed, committed_fits}
+use Rattle.table_shape.proofs.VirtualSteps.{push_is}
 use Rattle.table_shape.proofs.resolving.with_column.Goals as goal
 
 pub returns-clause-fits : goal.returns-clause-fits
 returns-clause-fits c =
-    let pushed = c.in_ok-push.ensures.ok in
-    record {
-      few = omega (arith, simp length-append at (ap length pushed));
-      few_constraints = c.requires.fits.few_constraints;
-      columns = subst (λ (columns : List ColumnShape). ColumnsFit columns) (sym pushed) (ColumnsFit-push _ _ c.requires.fits.columns c.requires.level c.requires.log_values);
-      constraints = c.requires.fits.constraints;
-    }
+    let table = c.args.table in
+    let name = c.args.name.now in
+    let new : list_any (λ d. bytes_eq name d.name) table.columns ≡ false = ap (λ (ds : List ColumnShape). list_any (λ d. bytes_eq name d.name) ds) (sym c.as_slice.ensures) ∙ sym c.has_column.ensures ∙ c.if-has_column.false in
+    let column : ColumnShape = record { name = name; level = c.args.level; log_values = c.args.log_values; kind = Committed } in
+    let pushed = push_is table c.push.new.self _ column c.in_ok-push.ensures.ok (λ i. record column { name = c.in_ok-name.ensures i }) in
+    subst TableFits pushed (column_pushed table column c.requires.fits (committed_fits table.columns name c.args.level c.args.log_values c.requires.level c.requires.log_values) (omega (arith, c.len.ensures)) new)

@@ -1,7 +1,7 @@
 use Rattle.std.proofs.Common.{◌≡◌, ◌++◌, map, drop}
 use Rattle.std.specs.Option.{option_map}
 use Rattle.table_shape.specs.Shape.{resolved, all_some}
-use Rattle.table_shape.proofs.resolving.+resolving.Given as goal
+use Rattle.table_shape.proofs.constraints.+resolving.Given as goal
 
 abbrev pub invariant-all_resolved-loop-expr : goal.invariant-all_resolved-loop-expr
 invariant-all_resolved-loop-expr l =

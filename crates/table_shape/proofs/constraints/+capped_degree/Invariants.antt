@@ -1,7 +1,7 @@
 use Rattle.std.proofs.Common.{◌≡◌, ◌≤◌, ◌+◌, min, max, map, drop}
 use Rattle.table_shape.specs.Value.{degree, greatest}
 use Rattle.std.specs.List.{sum}
-use Rattle.table_shape.proofs.resolving.+capped_degree.Given as goal
+use Rattle.table_shape.proofs.constraints.+capped_degree.Given as goal
 
 abbrev pub invariant-loop-part : goal.invariant-loop-part
 invariant-loop-part l = (l.greatest ≤ 9) × (min 9 (max l.greatest (greatest (map degree (drop l.part-index l.part-items)))) ≡ min 9 (degree l.expr))
