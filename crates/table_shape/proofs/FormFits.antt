@@ -13,9 +13,9 @@ use Rattle.table_shape.specs.declared.shape.ShapeForm.{ShapeForm}
 use Rattle.table_shape.specs.declared.shape.ShapeForm.TheVariants as form
 use Rattle.table_shape.specs.declared.shape.ColumnKind.TheVariants.{Virtual}
 use Rattle.table_shape.specs.declared.shape.ColumnShape.{ColumnShape}
-use Rattle.table_shape.specs.Width.{log_values_at}
+use Rattle.table_shape.specs.Width.{log_values_at, terms_width}
 use Rattle.table_shape.specs.Forms.{level_at, linear_level}
-use Rattle.table_shape.specs.Shape.{number_of_name, all_some, resolved_term, resolved_form, terms_of, repeats, terms_width, first_fault, block_checks, form_checks, form_level, form_log_values}
+use Rattle.table_shape.specs.Shape.{number_of_name, all_some, resolved_term, resolved_form, terms_of, repeats, first_fault, block_checks, form_checks, form_level, form_log_values}
 use Rattle.table_shape.specs.Checked.{IsChecked}
 use Rattle.table_shape.specs.Fits.{IsShiftOf, IsPackOf, IsProjectOf, IsLinearOf, IsFormOf, ColumnFits}
 
@@ -101,9 +101,11 @@ pack_fits : (before : List ColumnShape) (name : List ℕ) (c k : ℕ) → FoundI
     → IsSomeAnd (slice_get before c) (λ (source : ColumnShape). IsPackOf source (virtual_column name before (form.Pack c k)) k)
 pack_fits before name c k found passed =
     let wide = width_there before c found.0 found.1 in
-    let low = ltb-false (log_values_at before c) k (one_passed (ltb (log_values_at before c) k) _ _ passed).0 in
+    let p = one_passed (ltb (log_values_at before c) k) _ _ passed in
+    let fits = ltb-false (log_values_at before c) k p.0 in
+    let low = ltb-false 7 (level_at before c + k) (one_passed (ltb 7 (level_at before c + k)) _ _ p.1).0 in
     some_and (λ (source : ColumnShape). IsPackOf source (virtual_column name before (form.Pack c k)) k) (slice_get before c) found.0 found.1
-    (record { level_is = ap (λ l. l + k) (level_there before c found.0 found.1); log_values_is = omega arith })
+    (record { level_is = ap (λ l. l + k) (level_there before c found.0 found.1); low = low; log_values_is = omega arith })
 
 project_fits : (before : List ColumnShape) (name : List ℕ) (c k j : ℕ) → FoundIn before c → IsChecked before (form.Project c k j)
     → IsSomeAnd (slice_get before c) (λ (source : ColumnShape). IsProjectOf source (virtual_column name before (form.Project c k j)) k j)
@@ -150,7 +152,7 @@ terms_found before (t0 ∷ ts) terms e i t at =
     term_at before t0 ts u rest h all zero t at = let same : u ≡ t = cc in subst (λ (v : ShapeTerm). FoundIn before v.column) same (term_found before t0 u h)
     term_at before t0 ts u rest h all (suc i) t at = all i t at
 
-terms_are_as_many : (before : List ColumnShape) (ts : List Term) (terms : List ShapeTerm) → all_some (map (resolved_term before) ts) ≡ Some terms → length terms ≡ length ts
+pub terms_are_as_many : (before : List ColumnShape) (ts : List Term) (terms : List ShapeTerm) → all_some (map (resolved_term before) ts) ≡ Some terms → length terms ≡ length ts
 terms_are_as_many before [] terms e = let none : [] ≡ terms = cc in ap length (sym none)
 terms_are_as_many before (t0 ∷ ts) terms e =
     let r = all_some_parts (resolved_term before t0) (map (resolved_term before) ts) terms e in
@@ -177,6 +179,7 @@ linear_fits before name k0 ts terms e few passed =
           some_and (λ (source : ColumnShape). source.log_values ≡ terms_width before terms) (slice_get before t.column) f.0 f.1
           (sym (width_there before t.column f.0 f.1) ∙ eqb-true (log_values_at before t.column) (terms_width before terms) (all_at (λ (t : ShapeTerm). log_values_at before t.column == terms_width before terms) terms equal i t at));
       level_is = refl;
+      log_values_is = refl;
     }
 
 pub form_fits : (before : List ColumnShape) (name : List ℕ) (f0 : VirtualForm) (f : ShapeForm) → resolved_form before f0 ≡ Some f → length (terms_of f0) ≤ 64 → IsChecked before f → IsFormOf before (virtual_column name before f) f

@@ -9,8 +9,8 @@ use Rattle.table_shape.specs.declared.shape.ShapeForm.TheVariants as form
 use Rattle.table_shape.specs.declared.fault.ShapeFault.{ShapeFault}
 use Rattle.table_shape.specs.declared.fault.ShapeKind.TheVariants.{RepeatedTerm, UnequalWidth}
 use Rattle.table_shape.specs.Checked.{checked, checked_form}
-use Rattle.table_shape.specs.Shape.{fault, first_fault, repeats, terms_width}
-use Rattle.table_shape.specs.Width.{log_values_at}
+use Rattle.table_shape.specs.Shape.{fault, first_fault, repeats}
+use Rattle.table_shape.specs.Width.{log_values_at, terms_width}
 
 abbrev pub have_one_width : List ColumnShape → List ShapeTerm → Bool
 have_one_width columns terms = list_all (λ (t : ShapeTerm). log_values_at columns t.column == terms_width columns terms) terms

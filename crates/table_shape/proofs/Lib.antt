@@ -12,3 +12,5 @@ pub mod VirtualSteps
 pub mod ConstraintSteps
 pub mod Passed
 pub mod TableSteps
+pub mod MeantForm
+pub mod MeantShape

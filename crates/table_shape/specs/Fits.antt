@@ -15,7 +15,7 @@ use Rattle.table_shape.specs.declared.shape.ColumnShape.{ColumnShape}
 use Rattle.table_shape.specs.declared.shape.ConstraintShape.{ConstraintShape}
 use Rattle.table_shape.specs.declared.shape.TableShape.{TableShape}
 use Rattle.table_shape.specs.Value.{degree}
-use Rattle.table_shape.specs.Width.{has_width}
+use Rattle.table_shape.specs.Width.{terms_width, has_width}
 use Rattle.table_shape.specs.Forms.{linear_level}
 use Rattle.table_shape.specs.Parts.{ShapeParts}
 
@@ -29,6 +29,7 @@ pub record IsShiftOf (source column : ColumnShape) (block offset : ℕ) : Type 0
 -- a column of each 2 ^ log values as one
 pub record IsPackOf (source column : ColumnShape) (log : ℕ) : Type 0 where
   pub level_is : column.level ≡ source.level + log
+  pub low : column.level ≤ max_level
   pub log_values_is : column.log_values + log ≡ source.log_values
 
 -- a column of one of each 2 ^ log values
@@ -43,6 +44,7 @@ pub record IsLinearOf (before : List ColumnShape) (column : ColumnShape) (consta
   pub distinct : IsDistinct ◌==◌ (map (λ (t : ShapeTerm). t.column) terms)
   pub each : (i : ℕ) (term : ShapeTerm) → slice_get terms i ≡ Some term → IsSomeAnd (slice_get before term.column) (λ (source : ColumnShape). source.log_values ≡ column.log_values)
   pub level_is : column.level ≡ linear_level before constant terms
+  pub log_values_is : column.log_values ≡ terms_width before terms
 
 -- a virtual column over the columns that stand before it
 abbrev pub IsFormOf : List ColumnShape → ColumnShape → ShapeForm → Type 0

@@ -7,6 +7,7 @@ pub mod Parts
 pub mod Fits
 pub mod Shape
 pub mod Checked
+pub mod ShapeMeaning
 pub mod ShapeGives
 pub mod Names
 pub mod Size

@@ -30,7 +30,7 @@ use Rattle.table_shape.specs.declared.fault.ShapeKind.{ShapeKind}
 use Rattle.table_shape.specs.declared.fault.ShapeKind.TheVariants.{UnknownName, DoubleName, LevelTooHigh, UnequalWidth, BlockTooLong, OffsetOutOfRange, RepeatedTerm, DegreeTooHigh, TooMany, NotBuilt}
 use Rattle.table_shape.specs.AndThen.{◌>>=◌}
 use Rattle.table_shape.specs.Value.{degree}
-use Rattle.table_shape.specs.Width.{log_values_at, width, has_width}
+use Rattle.table_shape.specs.Width.{log_values_at, terms_width, width, has_width}
 use Rattle.table_shape.specs.Forms.{level_at, linear_level}
 use Rattle.table_shape.specs.Parts.{ShapeParts}
 
@@ -93,11 +93,6 @@ terms_of (virtual.Linear k0 terms) = terms
 abbrev pub repeats : List ShapeTerm → Bool
 repeats [] = false
 repeats (t ∷ terms) = list_any (λ (u : ShapeTerm). t.column == u.column) terms || repeats terms
-
--- the logarithm of the values per row of the first term's column
-abbrev pub terms_width : List ColumnShape → List ShapeTerm → ℕ
-terms_width columns [] = 0
-terms_width columns (t ∷ terms) = log_values_at columns t.column
 
 -- the kind of the first check that holds
 abbrev pub first_fault : List (Bool × ShapeKind) → Option ShapeKind

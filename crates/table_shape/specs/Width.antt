@@ -1,8 +1,9 @@
--- How many values per row an expression has.
+-- How many values per row an expression has, and a sum.
 -- Source: docs/LANGUAGE.md, "What a file means".
 use Rattle.std.specs.Prelude.{ℕ, Bool, true, false, ◌==◌, List, [], ◌∷◌, Option, Some, None, unwrap_or, slice_get}
 use Rattle.std.specs.List.{list_all}
 use Rattle.table_shape.specs.declared.shape.ColumnShape.{ColumnShape}
+use Rattle.table_shape.specs.declared.shape.ShapeTerm.{ShapeTerm}
 use Rattle.table_shape.specs.declared.shape.ShapeExpr.{ShapeExpr}
 use Rattle.table_shape.specs.declared.shape.ShapeExpr.TheOpen.{ShapeExpr-F}
 use Rattle.table_shape.specs.declared.shape.ShapeExpr.TheFolds.{fold-ShapeExpr}
@@ -10,6 +11,11 @@ use Rattle.table_shape.specs.declared.shape.ShapeExpr.TheFolds.{fold-ShapeExpr}
 -- the logarithm of a column's number of values per row, and 0 where there is no such column
 abbrev pub log_values_at : List ColumnShape → ℕ → ℕ
 log_values_at columns k = elim (slice_get columns k) [ Some column ↦ column.log_values | None ↦ 0 ]
+
+-- that of the first term's column, and 0 where there is no term
+abbrev pub terms_width : List ColumnShape → List ShapeTerm → ℕ
+terms_width columns [] = 0
+terms_width columns (t ∷ terms) = log_values_at columns t.column
 
 abbrev pub first_some : List (Option ℕ) → Option ℕ
 first_some [] = None

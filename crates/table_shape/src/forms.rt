@@ -6,9 +6,9 @@ ghost use Rattle.table_text.specs.Limits.{max_level, max_log_values};
 ghost use Rattle.table_shape.specs.Limits.{max_columns, max_terms};
 ghost use Rattle.table_shape.specs.Checked.{IsChecked, checked_form, place_of};
 ghost use Rattle.table_shape.specs.Fits.{AreSized, TableFits};
-ghost use Rattle.table_shape.specs.Shape.{all_some, form_level, form_log_values, number_of_name, repeats, resolved_form, resolved_term, terms_of, terms_width, with_virtual};
+ghost use Rattle.table_shape.specs.Shape.{all_some, form_level, form_log_values, number_of_name, repeats, resolved_form, resolved_term, terms_of, with_virtual};
 ghost use Rattle.table_shape.specs.ShapeGives.{Gives};
-ghost use Rattle.table_shape.specs.Width.{log_values_at};
+ghost use Rattle.table_shape.specs.Width.{log_values_at, terms_width};
 ghost use Rattle.table_text.specs.declared.decl.VirtualForm.TheVariants as virtual;
 
 use crate::copying::copied_name;

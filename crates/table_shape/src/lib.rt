@@ -22,7 +22,7 @@ pub use limits::{
     MAX_COLUMNS, MAX_CONSTRAINTS, MAX_DEGREE, MAX_ROWS, MAX_SIZE_LOG, MAX_TABLES, MAX_TERMS,
 };
 pub use no_memory::NoMemory;
-pub use resolving::resolve;
+pub use resolving::{resolve, shaped_where_meant};
 pub use shape::{
     ColumnKind, ColumnShape, ColumnShapes, ConstraintShape, ConstraintShapes, Shape, ShapeExpr,
     ShapeExprs, ShapeForm, ShapeTerm, ShapeTerms, TableShape, TableShapes,

@@ -6,6 +6,7 @@ ghost use Rattle.table_text.specs.Valid.{ItemLevelsFit};
 ghost use Rattle.table_shape.specs.Fits.{TableFits};
 ghost use Rattle.table_shape.specs.Shape.{begun_table, shape_of, with_column, with_item, with_items};
 ghost use Rattle.table_shape.specs.ShapeGives.{Gives};
+ghost use Rattle.table_shape.specs.ShapeMeaning.{IsShapedWhereMeant};
 
 use crate::constraints::with_constraint;
 use crate::copying::copied_name;
@@ -116,6 +117,13 @@ fn begun_table(
         constraints: Items::new(alloc),
     })
 }
+
+/// What it means that declarations have a shape: each table has the columns and the constraints that
+/// its items declare, over the columns before them by their numbers, names differ, and no limit is
+/// exceeded.
+pub fn shaped_where_meant()
+    ensures { IsShapedWhereMeant }
+{}
 
 /// The shape of declarations, or their first fault.
 pub fn resolve(alloc: Global, tables: &Tables) -> Result<Shape, ShapeStop>
