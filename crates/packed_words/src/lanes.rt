@@ -11,7 +11,7 @@ use tower_field::Tower;
 
 /// The number of the word in which lane `i` stands, and its lowest bit there.
 #[inline(always)]
-fn place_of(i: usize, level: u32) -> (usize, u32)
+pub(crate) fn place_of(i: usize, level: u32) -> (usize, u32)
     requires { level ≤ 7 }
     ensures word { result.0 ≡ i / per_word level }
     ensures bit { result.1 ≡ 2 ^ level * (i % per_word level) }
@@ -23,7 +23,7 @@ fn place_of(i: usize, level: u32) -> (usize, u32)
 
 /// The number of the element of a level that begins at a bit.
 #[inline(always)]
-fn element_in(word: u128, bit: u32, level: u32) -> u128
+pub(crate) fn element_in(word: u128, bit: u32, level: u32) -> u128
     requires is_a_level { level ≤ 7 }
     requires bit_exists { bit < 128 }
     ensures { result ≡ word / 2 ^ bit % 2 ^ (2 ^ level) }

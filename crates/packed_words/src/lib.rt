@@ -11,6 +11,7 @@ mod multiples;
 mod no_memory;
 mod product;
 mod transpose;
+mod words;
 
 pub use bit_sums::Buckets;
 pub use by_byte::times_byte;
@@ -19,6 +20,7 @@ pub use multiples::Multiples;
 pub use no_memory::NoMemory;
 pub use product::mul128;
 pub use transpose::transpose128;
+pub use words::{lane_of, set_lane};
 
 #[cfg(test)]
 mod tests;
