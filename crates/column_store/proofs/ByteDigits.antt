@@ -1,7 +1,7 @@
 -- The digits of numbers, and of the number that bytes spell.
-use Rattle.std.proofs.Common.{◌≡◌, ℕ, zero, suc, ◌+◌, ◌-◌, ◌*◌, ◌/◌, ◌%◌, ◌^◌, ◌<◌, ◌≤◌, List, [], ◌∷◌, length, take, drop, get_or, min, bit_and, refl, sym, ap, subst, ◌∙◌, inl, inr, arith, add-zero}
+use Rattle.std.proofs.Common.{◌≡◌, ℕ, zero, suc, ◌+◌, ◌-◌, ◌*◌, ◌/◌, ◌%◌, ◌^◌, ◌<◌, ◌≤◌, List, [], ◌∷◌, length, take, drop, get_or, min, refl, sym, ap, subst, ◌∙◌, inl, inr, arith}
 use Rattle.std.proofs.Math.Nat.{pow-zero, pow-suc, pow-le-pow_right, mul-zero, mul_comm, mul_assoc, div-div-eq-div-mul, div-eq_of_lt, div-one, mod-one, zero-div, zero-mod}
-use Rattle.std.proofs.lemmas.Nat.{pow_pos, pow-add, shr-shr, mod-pow-add, mod_low, shr_high, field_of, mod_below, one_shl, and_mask}
+use Rattle.std.proofs.lemmas.Nat.{pow_pos, pow-add, shr-shr, mod-pow-add, mod_low, shr_high, field_of, mod_below}
 use Rattle.std.proofs.lemmas.List.{get_or_past, get_or-drop, length-drop, take_rest, drop_min, take_min}
 use Rattle.std.proofs.lemmas.Bool.{cases_lt}
 use Rattle.tower_laws.specs.Digits.{digits}
@@ -85,14 +85,10 @@ lowest n m k h =
     let j : k ≡ (k - m) + m = omega arith in
     ap (λ x. n % 2 ^ x % 2 ^ m) j ∙ ap (λ x. x % 2 ^ m) (mod-pow-add n (k - m) m) ∙ mod_low (n / 2 ^ m % 2 ^ (k - m)) m (n % 2 ^ m) (mod_below n (2 ^ m) (pow_pos m))
 
--- bits within the lowest byte
-within : (n s w : ℕ) → s + w ≤ 8 → n / 2 ^ s % 2 ^ w ≡ n % 2 ^ 8 / 2 ^ s % 2 ^ w
-within n s w h =
-    sym (field_of n w s) ∙ ap (λ x. x / 2 ^ s) (sym (lowest n (w + s) 8 (omega arith))) ∙ field_of (n % 2 ^ 8) w s
-
-lowest_byte : (bytes : List ℕ) → AreBytes bytes → number_of_bytes bytes % 2 ^ 8 ≡ get_or bytes 0 0
-lowest_byte [] h = refl
-lowest_byte (b ∷ bytes) h = ap (λ x. x % 2 ^ 8) (as_parts b bytes) ∙ mod_low (number_of_bytes bytes) 8 b (first b bytes h)
+-- bits within the lowest bits
+pub within : (n m s w : ℕ) → s + w ≤ m → n / 2 ^ s % 2 ^ w ≡ n % 2 ^ m / 2 ^ s % 2 ^ w
+within n m s w h =
+    sym (field_of n w s) ∙ ap (λ x. x / 2 ^ s) (sym (lowest n (w + s) m (omega arith))) ∙ field_of (n % 2 ^ m) w s
 
 pub powers : (w p : ℕ) → (2 ^ w) ^ p ≡ 2 ^ (w * p)
 powers w zero = pow-zero (2 ^ w) ∙ ap (λ x. 2 ^ x) (sym (mul-zero w))
@@ -109,45 +105,12 @@ whole_bytes bytes k p h =
     ∙ ap (λ x. x % 2 ^ (8 * k)) (number-drop (p * k) bytes h)
     ∙ number-take k (drop (p * k) bytes) tail
 
--- a value of w bits within a byte
-pub part_of_byte : (bytes : List ℕ) (w p : ℕ) → AreBytes bytes → p * w % 8 + w ≤ 8
-    → number_of_bytes bytes / (2 ^ w) ^ p % 2 ^ w ≡ get_or bytes (p * w / 8) 0 / 2 ^ (p * w % 8) % 2 ^ w
-part_of_byte bytes w p h fits =
-    let q = p * w / 8 in
-    let s = p * w % 8 in
-    let e : w * p ≡ 8 * q + s = mul_comm w p ∙ omega arith in
-    let tail : AreBytes (drop q bytes) = λ i. rw get_or-drop (h (q + i)) in
-    ap (λ x. number_of_bytes bytes / x % 2 ^ w) (powers w p ∙ ap (λ x. 2 ^ x) e)
-    ∙ ap (λ x. x % 2 ^ w) (sym (shr-shr (number_of_bytes bytes) (8 * q) s) ∙ ap (λ x. x / 2 ^ s) (number-drop q bytes h))
-    ∙ within (number_of_bytes (drop q bytes)) s w fits
-    ∙ ap (λ x. x / 2 ^ s % 2 ^ w) (lowest_byte (drop q bytes) tail ∙ get_or-drop q bytes 0 0 ∙ ap (λ i. get_or bytes i 0) (add-zero q))
-
--- parts of a byte don't reach into the next
-pub fits_in_byte : (level p : ℕ) → level < 3 → p * 2 ^ level % 8 + 2 ^ level ≤ 8
-fits_in_byte zero p h = omega arith
-fits_in_byte (suc zero) p h = omega arith
-fits_in_byte (suc (suc zero)) p h = omega arith
-fits_in_byte (suc (suc (suc l))) p h = absurd (omega arith)
-
 -- what is left of bytes after a first one is below 2 ^ 120, if they are at most 16
 pub number_of_rest : (bytes : List ℕ) (at : ℕ) → AreBytes bytes → length bytes ≤ 16 → 0 < at → number_of_bytes (drop at bytes) < 2 ^ 120
 number_of_rest bytes at h few pos =
     let tail : AreBytes (drop at bytes) = λ i. rw get_or-drop (h (at + i)) in
     let mono = pow-le-pow_right {n = 2} (omega arith) {i = 8 * length (drop at bytes)} {j = 120} (omega (arith, length-drop at bytes)) in
     omega (arith, number-lt (drop at bytes) tail, mono)
-
--- as shifts and a mask give a part of a byte
-pub part_is : (bytes : List ℕ) (level p byte bits from : ℕ) → AreBytes bytes → level < 3 → from ≡ p → bits ≡ 2 ^ level → byte ≡ get_or bytes (from * bits / 8) 0
-    → bit_and (byte / 2 ^ (from * bits % 8)) (1 * 2 ^ bits % 256 - 1) ≡ number_of_bytes bytes / (2 ^ (2 ^ level)) ^ p % 2 ^ (2 ^ level)
-part_is bytes level p byte bits from h lt same_place same_bits is =
-    let small = pow-le-pow_right {n = 2} (omega arith) {i = level} {j = 2} (omega arith) in
-    let mask : 1 * 2 ^ bits % 2 ^ 8 ≡ 2 ^ bits = one_shl bits 8 (omega arith) in
-    let F : ℕ → ℕ → ℕ = λ f b. get_or bytes (f * b / 8) 0 / 2 ^ (f * b % 8) % 2 ^ b in
-    ap (λ x. bit_and (byte / 2 ^ (from * bits % 8)) (x - 1)) mask
-    ∙ and_mask (byte / 2 ^ (from * bits % 8)) bits
-    ∙ ap (λ b. b / 2 ^ (from * bits % 8) % 2 ^ bits) is
-    ∙ ap (λ f. F f bits) same_place ∙ ap (F p) same_bits
-    ∙ sym (part_of_byte bytes (2 ^ level) p h (fits_in_byte level p lt))
 
 -- as slices within bounds give a value of whole bytes
 pub slices_are : (bytes : List ℕ) (start size a b : ℕ) → a ≡ min start (length bytes) → b ≡ min size (length (take (length bytes - a) (drop a bytes)))
@@ -156,13 +119,3 @@ slices_are bytes start size a b e f =
     let rest = take (length bytes - a) (drop a bytes) in
     let same : rest ≡ drop start bytes = take_rest bytes a ∙ ap (λ n. drop n bytes) e ∙ drop_min start bytes in
     ap (λ n. take n rest) f ∙ take_min size rest ∙ ap (take size) same
-
-pub whole_is : (bytes : List ℕ) (level p size : ℕ) → AreBytes bytes → 3 ≤ level → size ≡ 2 ^ (level - 3)
-    → number_of_bytes (take size (drop (p * size) bytes)) ≡ number_of_bytes bytes / (2 ^ (2 ^ level)) ^ p % 2 ^ (2 ^ level)
-whole_is bytes level p size h low e =
-    let k : 3 + (level - 3) ≡ level = omega arith in
-    let w : 8 * size ≡ 2 ^ level = ap (λ x. 8 * x) e ∙ sym (pow-add 2 3 (level - 3)) ∙ ap (λ x. 2 ^ x) k in
-    sym (whole_bytes bytes size p h) ∙ ap (λ x. number_of_bytes bytes / (2 ^ x) ^ p % 2 ^ x) w
-
-pub size_is : (level : ℕ) → level ≤ 7 → (1 * 2 ^ (level - 3) % 2 ^ 64 ≡ 2 ^ (level - 3)) × (2 ^ (level - 3) ≤ 16)
-size_is level h = (one_shl (level - 3) 64 (omega arith), pow-le-pow_right {n = 2} (omega arith) {i = level - 3} {j = 4} (omega arith))

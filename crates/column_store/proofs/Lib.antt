@@ -1,4 +1,8 @@
 pub mod ByteDigits
-pub mod ColumnValues
-pub mod Filled
+pub mod FillSteps
+pub mod FilledColumns
+pub mod FormFits
+pub mod Kept
 pub mod Padding
+pub mod Pieces
+pub mod Words

@@ -1,3 +1,6 @@
 pub mod Digits
 pub mod Spelled
-pub mod Store
+pub mod Column
+pub mod Filled
+pub mod Draft
+pub mod SizeStop

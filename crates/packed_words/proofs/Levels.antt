@@ -3,7 +3,7 @@ use Rattle.std.proofs.Common.{◌≡◌, ℕ, zero, suc, ◌-◌, ◌*◌, ◌/�
 use Rattle.std.proofs.lemmas.Nat.{and_mask, pow_pos}
 use Rattle.packed_words.specs.Packing.{per_word}
 
-eight : (P : ℕ → Type 0) → P 0 → P 1 → P 2 → P 3 → P 4 → P 5 → P 6 → P 7 → (i : ℕ) → i ≤ 7 → P i
+pub eight : (P : ℕ → Type 0) → P 0 → P 1 → P 2 → P 3 → P 4 → P 5 → P 6 → P 7 → (i : ℕ) → i ≤ 7 → P i
 eight P a b c d e f g h zero l = a
 eight P a b c d e f g h (suc zero) l = b
 eight P a b c d e f g h (suc (suc zero)) l = c
