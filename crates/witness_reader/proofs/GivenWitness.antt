@@ -3,6 +3,8 @@ use Rattle.std.proofs.Common.{◌≡◌, ◌↔◌, ℕ, ◌+◌, ◌/◌, ◌^�
 use Rattle.std.proofs.lemmas.Bool.{eqb-true, eq-eqb, ltb-true, lt-ltb, le-ltb, not-true}
 use Rattle.serde_json.specs.Data.{Data, Members}
 use Rattle.serde_json.specs.Find.{get_member, as_object, as_str}
+use Rattle.table_shape.specs.declared.shape.ColumnKind.{ColumnKind}
+use Rattle.table_shape.specs.declared.shape.ColumnKind.TheVariants.{Committed, Virtual}
 use Rattle.table_shape.specs.declared.shape.ColumnShape.{ColumnShape}
 use Rattle.table_shape.specs.declared.shape.TableShape.{TableShape}
 use Rattle.witness_reader.specs.declared.fault.WitnessPlace.{WitnessPlace}
@@ -12,11 +14,11 @@ use Rattle.witness_reader.specs.declared.fault.WitnessKind.TheVariants.{NotJson,
 use Rattle.witness_reader.specs.declared.fault.WitnessStop.TheVariants.{TooLarge}
 use Rattle.table_shape.specs.AndThen.{◌>>=◌}
 use Rattle.table_shape.specs.Size.{size_log}
-use Rattle.table_shape.specs.Shape.{column_names, table_names}
+use Rattle.table_shape.specs.Shape.{table_names}
 use Rattle.column_store.specs.Digits.{number_of_bytes}
-use Rattle.witness_reader.specs.Witness.{WitnessData, or_refuse, unless, json_of, rows_of, object_of, objects_of, hex_bytes, column_bytes, columns_bytes, has_other, table_bytes, tables_bytes, within_size, witness_of_objects, witness_of}
+use Rattle.witness_reader.specs.Witness.{WitnessData, or_refuse, unless, json_of, rows_of, object_of, objects_of, hex_bytes, column_bytes, given_bytes, columns_bytes, committed_names, has_other, table_bytes, tables_bytes, within_size, witness_of_objects, witness_of}
 use Rattle.column_store.specs.Spelled.{written_bits}
-use Rattle.witness_reader.specs.WitnessMeaning.{GivesColumn, GivesColumns, GivesTable, GivesTables, GivesWitness}
+use Rattle.witness_reader.specs.WitnessMeaning.{GivesColumn, GivesKind, GivesColumns, GivesTable, GivesTables, GivesWitness}
 use Rattle.table_shape.proofs.AndThenSteps.{bind_ok, bind_is}
 use Rattle.witness_reader.proofs.KeptWitness.{along, was_there, passed, within, below_along}
 
@@ -66,21 +68,29 @@ column_read t c rows column object bytes g =
     (passes (length bytes == (written_bits rows column + 7) / 8) place WrongLength bytes (eq-eqb (length bytes) ((written_bits rows column + 7) / 8) g.len))
     ∙ passes (ltb (number_of_bytes bytes) (2 ^ written_bits rows column)) place PaddingBits bytes (lt-ltb (number_of_bytes bytes) (2 ^ written_bits rows column) g.no_padding)
 
+kind_given : (t c rows : ℕ) (column : ColumnShape) (object : Members) (bytes : List ℕ) (kind : ColumnKind) → given_bytes t c rows column object kind ≡ Ok bytes → GivesKind object rows column bytes kind
+kind_given t c rows column object bytes Committed e = column_given t c rows column object bytes e
+kind_given t c rows column object bytes (Virtual form) e = let nil : List ℕ = [] in along (λ (b : List ℕ). b ≡ []) nil bytes e refl
+
+kind_read : (t c rows : ℕ) (column : ColumnShape) (object : Members) (bytes : List ℕ) (kind : ColumnKind) → GivesKind object rows column bytes kind → given_bytes t c rows column object kind ≡ Ok bytes
+kind_read t c rows column object bytes Committed g = column_read t c rows column object bytes g
+kind_read t c rows column object bytes (Virtual form) g = ap Ok (sym g)
+
 columns_given : (t c rows : ℕ) (columns : List ColumnShape) (object : Members) (bytes : List (List ℕ)) → columns_bytes t c rows columns object ≡ Ok bytes → GivesColumns object rows columns bytes
 columns_given t c rows [] object bytes e = let nil : List (List ℕ) = [] in along (λ (bs : List (List ℕ)). GivesColumns object rows [] bs) nil bytes e tt
 columns_given t c rows (first ∷ columns) object bytes e =
-    let a = bind_ok (column_bytes t c rows first object) (λ b. columns_bytes t (c + 1) rows columns object >>= (λ more. Ok (b ∷ more))) bytes e in
+    let a = bind_ok (given_bytes t c rows first object first.kind) (λ b. columns_bytes t (c + 1) rows columns object >>= (λ more. Ok (b ∷ more))) bytes e in
     let b = bind_ok (columns_bytes t (c + 1) rows columns object) (λ more. Ok (a.0 ∷ more)) bytes a.2 in
     let made : List (List ℕ) = a.0 ∷ b.0 in
     along (λ (bs : List (List ℕ)). GivesColumns object rows (first ∷ columns) bs) made bytes b.2
-    (column_given t c rows first object a.0 a.1, columns_given t (c + 1) rows columns object b.0 b.1)
+    (kind_given t c rows first object a.0 first.kind a.1, columns_given t (c + 1) rows columns object b.0 b.1)
 
 columns_read : (t c rows : ℕ) (columns : List ColumnShape) (object : Members) (bytes : List (List ℕ)) → GivesColumns object rows columns bytes → columns_bytes t c rows columns object ≡ Ok bytes
 columns_read t c rows [] object [] g = refl
 columns_read t c rows [] object (b ∷ bytes) g = absurd g
 columns_read t c rows (first ∷ columns) object [] g = absurd g
 columns_read t c rows (first ∷ columns) object (b ∷ bytes) g =
-    bind_is (column_bytes t c rows first object) b (λ b. columns_bytes t (c + 1) rows columns object >>= (λ more. Ok (b ∷ more))) (column_read t c rows first object b g.0)
+    bind_is (given_bytes t c rows first object first.kind) b (λ b. columns_bytes t (c + 1) rows columns object >>= (λ more. Ok (b ∷ more))) (kind_read t c rows first object b first.kind g.0)
     ∙ bind_is (columns_bytes t (c + 1) rows columns object) bytes (λ more. Ok (b ∷ more)) (columns_read t (c + 1) rows columns object bytes g.1)
 
 -- ---- tables
@@ -93,7 +103,7 @@ table_given t table whole object bytes e h =
     let made : Members × ℕ = (b.0, d.0) in
     let P : Members × ℕ → Type 0 = λ o. table_bytes t table o ≡ Ok bytes → GivesTable whole table o.1 bytes in
     along P made object d.2 (λ k.
-    let others = not (has_other (codes "rows" ∷ column_names table) b.0) in
+    let others = not (has_other (codes "rows" ∷ committed_names table.columns) b.0) in
     let rest = λ (bs : List (List ℕ)). unless others (Table t) ExtraColumn bs in
     let f = bind_ok (columns_bytes t 0 d.0 table.columns b.0) rest bytes k in
     let g = passed others (Table t) ExtraColumn f.0 bytes f.2 in
@@ -104,7 +114,7 @@ table_given t table whole object bytes e h =
       is_object = was_there (Table t) NotAnObject (as_object a.0) b.0 b.1;
       is_number = was_there (Table t) BadRows (rows_of b.0) d.0 d.1;
       columns = subst (λ (bs : List (List ℕ)). GivesColumns b.0 d.0 table.columns bs) g.1 (columns_given t 0 d.0 table.columns b.0 f.0 f.1);
-      no_other = not-true (has_other (codes "rows" ∷ column_names table) b.0) g.0;
+      no_other = not-true (has_other (codes "rows" ∷ committed_names table.columns) b.0) g.0;
     }) h
 
 object_read : (t : ℕ) (table : TableShape) (whole : Members) (rows : ℕ) (bytes : List (List ℕ)) (g : GivesTable whole table rows bytes) → object_of t table whole ≡ Ok (g.object, rows)
@@ -117,7 +127,7 @@ object_read t table whole rows bytes g =
 
 table_read : (t : ℕ) (table : TableShape) (whole : Members) (rows : ℕ) (bytes : List (List ℕ)) (g : GivesTable whole table rows bytes) → table_bytes t table (g.object, rows) ≡ Ok bytes
 table_read t table whole rows bytes g =
-    let others = not (has_other (codes "rows" ∷ column_names table) g.object) in
+    let others = not (has_other (codes "rows" ∷ committed_names table.columns) g.object) in
     bind_is (columns_bytes t 0 rows table.columns g.object) bytes (λ (bs : List (List ℕ)). unless others (Table t) ExtraColumn bs) (columns_read t 0 rows table.columns g.object bytes g.columns)
     ∙ passes others (Table t) ExtraColumn bytes (ap not g.no_other)
 

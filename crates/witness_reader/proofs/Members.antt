@@ -1,6 +1,6 @@
 -- Members of objects by their names.
-use Rattle.std.proofs.Common.{◌≡◌, ℕ, ◌==◌, true, ◌||◌, not, List, [], ◌∷◌, length, Some, None, Ok, Bor, string_bytes, bytes_eq, IsUtf8, refl, sym, ap, subst, ◌∙◌}
-use Rattle.std.specs.List.{list_any}
+use Rattle.std.proofs.Common.{◌≡◌, ℕ, ◌==◌, Bool, true, false, cond, map, ◌&&◌, ◌||◌, not, List, [], ◌∷◌, length, Some, None, Ok, Bor, string_bytes, bytes_eq, IsUtf8, refl, sym, ap, subst, ◌∙◌}
+use Rattle.std.specs.List.{filter, list_any}
 use Rattle.std.specs.Map.{keys_of}
 use Rattle.std.specs.Map.Iter.{TakesFirst}
 use Rattle.std.specs.Str.Lossy.{utf8_valid_len}
@@ -15,7 +15,8 @@ use Rattle.serde_json.specs.View.{members_view}
 use Rattle.serde_json.proofs.Views.{Entry, member_later}
 use Rattle.witness_reader.specs.declared.fault.WitnessPlace.TheVariants.{Whole}
 use Rattle.witness_reader.specs.declared.fault.WitnessKind.TheVariants.{NotJson}
-use Rattle.witness_reader.specs.Witness.{json_of, or_refuse, has_other}
+use Rattle.table_shape.specs.declared.shape.ColumnShape.{ColumnShape}
+use Rattle.witness_reader.specs.Witness.{json_of, or_refuse, has_other, is_committed, committed_names}
 
 pub json_is : (bytes text : List ℕ) (json : Data) → text ≡ bytes → IsUtf8 bytes → read text ≡ Some json → or_refuse Whole NotJson (json_of bytes) ≡ Ok json
 json_is bytes text json e utf8 is =
@@ -34,3 +35,13 @@ has_other-keys names (e ∷ es) = ap (λ b. not (list_any (bytes_eq (string_byte
 
 pub keys_yield : {K : Type 0} (s ks : List K) → s ≡ ks → YieldsList (TakesFirst (λ (x : Bor K). x.now)) (λ x. x.now) s ks
 keys_yield s ks e = subst (YieldsList (TakesFirst (λ x. x.now)) (λ x. x.now) s) e (YieldsList-from_shown (TakesFirst (λ x. x.now)) (λ x. x.now) (λ t. t) (λ t u h. ap length h.0) (λ t x u h. h) s)
+
+-- one of the columns that a witness gives has a name that passes
+pub list_any-committed : (f : List ℕ → Bool) (columns : List ColumnShape) → list_any (λ (c : ColumnShape). is_committed c.kind && f c.name) columns ≡ list_any f (committed_names columns)
+list_any-committed f [] = refl
+list_any-committed f (column ∷ columns) =
+    elim (is_committed column.kind) as (λ b. ((b && f column.name) || list_any (λ (c : ColumnShape). is_committed c.kind && f c.name) columns)
+    ≡ list_any f (map (λ (c : ColumnShape). c.name) (cond b (column ∷ filter (λ (c : ColumnShape). is_committed c.kind) columns) (filter (λ (c : ColumnShape). is_committed c.kind) columns)))) [
+      | true ↦ ap (λ b. f column.name || b) (list_any-committed f columns)
+      | false ↦ list_any-committed f columns
+    ]

@@ -8,7 +8,7 @@ use Rattle.witness_reader.specs.declared.fault.WitnessStop.{WitnessStop}
 use Rattle.witness_reader.specs.declared.fault.WitnessStop.TheVariants.{Fault, TooLarge, NoMemory}
 use Rattle.table_shape.specs.AndThen.{◌>>=◌}
 use Rattle.witness_reader.specs.WitnessGives.{Stops}
-use Rattle.witness_reader.specs.Witness.{object_of, objects_of, column_bytes, columns_bytes, table_bytes, tables_bytes}
+use Rattle.witness_reader.specs.Witness.{object_of, objects_of, given_bytes, columns_bytes, table_bytes, tables_bytes}
 use Rattle.table_shape.proofs.AndThenSteps.{bind_ok, bind_is}
 use Rattle.table_shape.proofs.Bits.{drop_here}
 
@@ -52,22 +52,22 @@ begins given = whole given
 -- ---- the columns of a table
 
 pub columns_step : (t c rows : ℕ) (columns : List ColumnShape) (column : ColumnShape) (object : Members) → c < length columns → column ≡ get_or columns c column
-    → columns_bytes t c rows (drop c columns) object ≡ (column_bytes t c rows column object >>= (λ bytes. columns_bytes t (c + 1) rows (drop (c + 1) columns) object >>= (λ more. Ok (bytes ∷ more))))
+    → columns_bytes t c rows (drop c columns) object ≡ (given_bytes t c rows column object column.kind >>= (λ bytes. columns_bytes t (c + 1) rows (drop (c + 1) columns) object >>= (λ more. Ok (bytes ∷ more))))
 columns_step t c rows columns column object h e = ap (λ cs. columns_bytes t c rows cs object) (drop_here columns c column h e)
 
 pub columns_end : (t c rows : ℕ) (columns : List ColumnShape) (object : Members) → length columns ≤ c → columns_bytes t c rows (drop c columns) object ≡ Ok []
 columns_end t c rows columns object h = ap (λ cs. columns_bytes t c rows cs object) (drop_all c columns h)
 
 pub columns_stop : (stop : WitnessStop) (t c rows : ℕ) (columns : List ColumnShape) (column : ColumnShape) (object : Members) → c < length columns → column ≡ get_or columns c column
-    → Stops stop (column_bytes t c rows column object) → Stops stop (columns_bytes t c rows (drop c columns) object)
+    → Stops stop (given_bytes t c rows column object column.kind) → Stops stop (columns_bytes t c rows (drop c columns) object)
 columns_stop stop t c rows columns column object h e s =
     let next = (λ (bytes : List ℕ). columns_bytes t (c + 1) rows (drop (c + 1) columns) object >>= (λ more. Ok (bytes ∷ more))) in
-    stops_along stop (column_bytes t c rows column object >>= next) (columns_bytes t c rows (drop c columns) object) (columns_step t c rows columns column object h e) (stops_then stop (column_bytes t c rows column object) next s)
+    stops_along stop (given_bytes t c rows column object column.kind >>= next) (columns_bytes t c rows (drop c columns) object) (columns_step t c rows columns column object h e) (stops_then stop (given_bytes t c rows column object column.kind) next s)
 
-pub columns_go_on : (t c rows : ℕ) (columns : List ColumnShape) (column : ColumnShape) (object : Members) (bytes : List ℕ) → c < length columns → column ≡ get_or columns c column → column_bytes t c rows column object ≡ Ok bytes
+pub columns_go_on : (t c rows : ℕ) (columns : List ColumnShape) (column : ColumnShape) (object : Members) (bytes : List ℕ) → c < length columns → column ≡ get_or columns c column → given_bytes t c rows column object column.kind ≡ Ok bytes
     → columns_bytes t c rows (drop c columns) object ≡ (columns_bytes t (c + 1) rows (drop (c + 1) columns) object >>= (λ more. Ok (bytes ∷ more)))
 columns_go_on t c rows columns column object bytes h e is =
-    columns_step t c rows columns column object h e ∙ bind_is (column_bytes t c rows column object) bytes (λ bytes. columns_bytes t (c + 1) rows (drop (c + 1) columns) object >>= (λ more. Ok (bytes ∷ more))) is
+    columns_step t c rows columns column object h e ∙ bind_is (given_bytes t c rows column object column.kind) bytes (λ bytes. columns_bytes t (c + 1) rows (drop (c + 1) columns) object >>= (λ more. Ok (bytes ∷ more))) is
 
 -- ---- the rows of tables
 

@@ -1,3 +1,4 @@
+pub mod Putting
 pub mod Witness
 pub mod WitnessGives
 pub mod WitnessMeaning

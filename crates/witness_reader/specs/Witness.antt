@@ -1,6 +1,6 @@
 -- The rows and values that a witness file gives, or its first fault.
 -- Source: docs/FORMATS.md, "The witness".
-use Rattle.std.specs.Prelude.{◌≡◌, ℕ, ◌+◌, ◌/◌, ◌^◌, ◌||◌, ◌==◌, not, nat_lt, nat_le, Bool, false, if◌then◌else◌, List, [], ◌∷◌, length, map, codes, Option, Some, None, option_and_then, Result, Ok, Err}
+use Rattle.std.specs.Prelude.{◌≡◌, ℕ, ◌+◌, ◌/◌, ◌^◌, ◌||◌, ◌==◌, not, nat_lt, nat_le, Bool, true, false, if◌then◌else◌, List, [], ◌∷◌, length, map, filter, codes, Option, Some, None, option_and_then, Result, Ok, Err}
 use Rattle.std.specs.List.{list_any}
 use Rattle.std.specs.Str.{bytes_eq}
 use Rattle.std.specs.Str.Lossy.{utf8_valid_len}
@@ -9,6 +9,8 @@ use Rattle.serde_json.specs.Read.{read}
 use Rattle.serde_json.specs.Find.{get_member, as_object, as_number, as_u64, as_str}
 use Rattle.hex.specs.Hex.{decode_of}
 use Rattle.table_shape.specs.Limits.{max_rows, max_size_log}
+use Rattle.table_shape.specs.declared.shape.ColumnKind.{ColumnKind}
+use Rattle.table_shape.specs.declared.shape.ColumnKind.TheVariants.{Committed, Virtual}
 use Rattle.table_shape.specs.declared.shape.ColumnShape.{ColumnShape}
 use Rattle.table_shape.specs.declared.shape.TableShape.{TableShape}
 use Rattle.witness_reader.specs.declared.fault.WitnessPlace.{WitnessPlace}
@@ -19,10 +21,11 @@ use Rattle.witness_reader.specs.declared.fault.WitnessStop.{WitnessStop}
 use Rattle.witness_reader.specs.declared.fault.WitnessStop.TheVariants.{Fault, TooLarge}
 use Rattle.table_shape.specs.AndThen.{◌>>=◌}
 use Rattle.table_shape.specs.Size.{size_log}
-use Rattle.table_shape.specs.Shape.{column_names, table_names}
+use Rattle.table_shape.specs.Shape.{table_names}
 use Rattle.table_shape.specs.Filling.{Filling}
 use Rattle.column_store.specs.Digits.{number_of_bytes}
 use Rattle.column_store.specs.Spelled.{written_bits, all_values}
+use Rattle.column_store.specs.Filled.{filled_tables}
 
 abbrev pub refuse : {X : Type 0} → WitnessPlace → WitnessKind → Result X WitnessStop
 refuse place kind = Err (Fault (record { place = place; kind = kind }))
@@ -72,10 +75,23 @@ column_bytes t c rows column object =
     unless (length bytes == (written_bits rows column + 7) / 8) (Column t c) WrongLength bytes >>= (λ bytes.
     unless (nat_lt (number_of_bytes bytes) (2 ^ written_bits rows column)) (Column t c) PaddingBits bytes))))
 
+-- those of a column of this kind: a virtual column has none
+abbrev pub given_bytes : ℕ → ℕ → ℕ → ColumnShape → Members → ColumnKind → Result (List ℕ) WitnessStop
+given_bytes t c rows column object Committed = column_bytes t c rows column object
+given_bytes t c rows column object (Virtual form) = Ok []
+
 -- those of the columns from number c on
 abbrev pub columns_bytes : ℕ → ℕ → ℕ → List ColumnShape → Members → Result (List (List ℕ)) WitnessStop
 columns_bytes t c rows [] object = Ok []
-columns_bytes t c rows (column ∷ columns) object = column_bytes t c rows column object >>= (λ bytes. columns_bytes t (c + 1) rows columns object >>= (λ more. Ok (bytes ∷ more)))
+columns_bytes t c rows (column ∷ columns) object = given_bytes t c rows column object column.kind >>= (λ bytes. columns_bytes t (c + 1) rows columns object >>= (λ more. Ok (bytes ∷ more)))
+
+abbrev pub is_committed : ColumnKind → Bool
+is_committed Committed = true
+is_committed (Virtual form) = false
+
+-- the names of the columns that a witness gives
+abbrev pub committed_names : List ColumnShape → List (List ℕ)
+committed_names columns = map (λ (c : ColumnShape). c.name) (filter (λ (c : ColumnShape). is_committed c.kind) columns)
 
 -- a member with none of these names
 abbrev pub has_other : List (List ℕ) → Members → Bool
@@ -85,7 +101,7 @@ has_other names (member key found more) = not (list_any (bytes_eq key) names) ||
 -- the bytes of all columns of table t, whose object has no other member
 abbrev pub table_bytes : ℕ → TableShape → Members × ℕ → Result (List (List ℕ)) WitnessStop
 table_bytes t table object =
-    columns_bytes t 0 object.1 table.columns object.0 >>= (λ bytes. unless (not (has_other (codes "rows" ∷ column_names table) object.0)) (Table t) ExtraColumn bytes)
+    columns_bytes t 0 object.1 table.columns object.0 >>= (λ bytes. unless (not (has_other (codes "rows" ∷ committed_names table.columns) object.0)) (Table t) ExtraColumn bytes)
 
 -- those of the tables from number t on
 abbrev pub tables_bytes : ℕ → List TableShape → List (Members × ℕ) → Result (List (List (List ℕ))) WitnessStop
@@ -93,7 +109,7 @@ tables_bytes t [] objects = Ok []
 tables_bytes t (table ∷ tables) [] = Ok []
 tables_bytes t (table ∷ tables) (object ∷ objects) = table_bytes t table object >>= (λ bytes. tables_bytes (t + 1) tables objects >>= (λ more. Ok (bytes ∷ more)))
 
--- how many rows each table has, and the bytes of each of its columns
+-- how many rows each table has, and the bytes of each of its columns, none for a virtual one
 pub record WitnessData : Type 0 where
   pub rows : List ℕ
   pub bytes : List (List (List ℕ))
@@ -116,9 +132,9 @@ witness_of tables file =
     objects_of 0 tables whole >>= (λ objects.
     witness_of_objects tables whole objects)))
 
--- the values that a witness gives to the columns of tables
+-- the values that a witness gives to the columns of tables: to the committed ones by their bytes, and to the virtual ones by their forms
 abbrev pub filling_of : List TableShape → WitnessData → Filling
-filling_of tables w = all_values tables w.rows w.bytes
+filling_of tables w = filled_tables tables w.rows (all_values tables w.rows w.bytes)
 
 -- the rows and values of the witness that a file gives to tables
 abbrev pub IsOf : List TableShape → List ℕ → List ℕ → Filling → Type 0

@@ -4,12 +4,14 @@ use Rattle.std.specs.Prelude.{◌≡◌, ◌↔◌, ℕ, ◌+◌, ◌/◌, ◌^�
 use Rattle.serde_json.specs.Data.{Data, Members}
 use Rattle.serde_json.specs.Find.{get_member, as_object, as_str}
 use Rattle.table_shape.specs.Limits.{max_size_log}
+use Rattle.table_shape.specs.declared.shape.ColumnKind.{ColumnKind}
+use Rattle.table_shape.specs.declared.shape.ColumnKind.TheVariants.{Committed, Virtual}
 use Rattle.table_shape.specs.declared.shape.ColumnShape.{ColumnShape}
 use Rattle.table_shape.specs.declared.shape.TableShape.{TableShape}
 use Rattle.table_shape.specs.Size.{size_log}
-use Rattle.table_shape.specs.Shape.{column_names, table_names}
+use Rattle.table_shape.specs.Shape.{table_names}
 use Rattle.column_store.specs.Digits.{number_of_bytes}
-use Rattle.witness_reader.specs.Witness.{WitnessData, json_of, rows_of, hex_bytes, has_other, witness_of}
+use Rattle.witness_reader.specs.Witness.{WitnessData, json_of, rows_of, hex_bytes, committed_names, has_other, witness_of}
 use Rattle.column_store.specs.Spelled.{written_bits}
 
 -- a table's object has a text of hexadecimal digits for a column: as few bytes as hold the bits of all rows, and no other bit
@@ -22,14 +24,19 @@ pub record GivesColumn (object : Members) (rows : ℕ) (column : ColumnShape) (b
   pub len : length bytes ≡ (written_bits rows column + 7) / 8
   pub no_padding : number_of_bytes bytes < 2 ^ written_bits rows column
 
--- so it has for each of these columns
+-- so it has for a committed column, and there are no bytes for a virtual one
+abbrev pub GivesKind : Members → ℕ → ColumnShape → List ℕ → ColumnKind → Type 0
+GivesKind object rows column bytes Committed = GivesColumn object rows column bytes
+GivesKind object rows column bytes (Virtual form) = bytes ≡ []
+
+-- so it is for each of these columns
 abbrev pub GivesColumns : Members → ℕ → List ColumnShape → List (List ℕ) → Type 0
 GivesColumns object rows [] [] = Unit {0}
 GivesColumns object rows [] (b ∷ bytes) = ⊥
 GivesColumns object rows (column ∷ columns) [] = ⊥
-GivesColumns object rows (column ∷ columns) (b ∷ bytes) = GivesColumn object rows column b × GivesColumns object rows columns bytes
+GivesColumns object rows (column ∷ columns) (b ∷ bytes) = GivesKind object rows column b column.kind × GivesColumns object rows columns bytes
 
--- the whole has an object for a table, with its number of rows, each column, and nothing else
+-- the whole has an object for a table, with its number of rows, each committed column, and nothing else
 pub record GivesTable (whole : Members) (table : TableShape) (rows : ℕ) (bytes : List (List ℕ)) : Type 0 where
   pub found : Data
   pub object : Members
@@ -37,7 +44,7 @@ pub record GivesTable (whole : Members) (table : TableShape) (rows : ℕ) (bytes
   pub is_object : as_object found ≡ Some object
   pub is_number : rows_of object ≡ Some rows
   pub columns : GivesColumns object rows table.columns bytes
-  pub no_other : has_other (codes "rows" ∷ column_names table) object ≡ false
+  pub no_other : has_other (codes "rows" ∷ committed_names table.columns) object ≡ false
 
 -- so it has for each of these tables
 abbrev pub GivesTables : Members → List TableShape → List ℕ → List (List (List ℕ)) → Type 0

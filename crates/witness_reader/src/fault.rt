@@ -4,7 +4,6 @@ ghost use Rattle.std.specs.Prelude.{◌≡◌};
 ghost use Rattle.witness_reader.specs.declared.fault.WitnessStop.TheVariants.{NoMemory};
 
 use std::alloc::AllocError;
-use table_shape::NoMemory as ShapeNoMemory;
 
 /// Where a witness is faulty.
 #[derive(Clone, Copy, Debug, PartialEq, Eq)]
@@ -59,14 +58,6 @@ impl From<AllocError> for WitnessStop {
     ghost from_gives = { λ _ stop. stop ≡ NoMemory };
 
     fn from(_e: AllocError) -> WitnessStop {
-        WitnessStop::NoMemory
-    }
-}
-
-impl From<ShapeNoMemory> for WitnessStop {
-    ghost from_gives = { λ _ stop. stop ≡ NoMemory };
-
-    fn from(_e: ShapeNoMemory) -> WitnessStop {
         WitnessStop::NoMemory
     }
 }

@@ -2,7 +2,7 @@
 
 ghost use Rattle.table_text.specs.Limits.{max_level, max_log_values};
 ghost use Rattle.table_shape.specs.Limits.{max_tables, max_columns, max_rows};
-ghost use Rattle.std.specs.Prelude.{◌≡◌, ◌≢◌, ◌+◌, ◌/◌, ◌^◌, ◌∷◌, ◌≤◌, ℕ, List, codes, length, map, nat_lt, option_map, IfOk, Ok, Err};
+ghost use Rattle.std.specs.Prelude.{◌≡◌, ◌≢◌, ◌&&◌, ◌+◌, ◌/◌, ◌^◌, ◌∷◌, ◌<◌, ◌≤◌, ℕ, List, [], codes, length, map, nat_lt, option_map, slice_get, slice_index, slice_index_or, slice_set, IfOk, Ok, Err, Some};
 ghost use Rattle.std.specs.List.{list_any};
 ghost use Rattle.std.specs.Str.{bytes_eq};
 ghost use Rattle.serde_json.specs.Data.{Members};
@@ -16,62 +16,109 @@ ghost use Rattle.column_store.specs.Digits.{number_of_bytes};
 ghost use Rattle.table_shape.specs.Filling.{IsFilling};
 ghost use Rattle.witness_reader.specs.WitnessMeaning.{IsReadWhereGiven};
 ghost use Rattle.witness_reader.specs.WitnessGives.{Gives};
-ghost use Rattle.table_shape.specs.Shape.{ColumnsFit, TableFits, TablesFit, table_names};
-ghost use Rattle.witness_reader.specs.Witness.{IsOf, column_bytes, columns_bytes, has_other, hex_bytes, json_of, object_of, objects_of, or_refuse, rows_of, rows_of_tables, table_bytes, tables_bytes, witness_of};
-ghost use Rattle.column_store.specs.Spelled.{written_bits};
+ghost use Rattle.table_shape.specs.Fits.{AreSized, TableFits};
+ghost use Rattle.table_shape.specs.Shape.{table_names};
+ghost use Rattle.table_shape.specs.declared.shape.TableShape.{TableShape as Table};
+ghost use Rattle.witness_reader.specs.Witness.{IsOf, column_bytes, columns_bytes, committed_names, given_bytes, is_committed, has_other, hex_bytes, json_of, object_of, objects_of, or_refuse, rows_of, rows_of_tables, table_bytes, tables_bytes, witness_of};
+ghost use Rattle.column_store.specs.Spelled.{all_values, table_values, written_bits};
+ghost use Rattle.column_store.specs.Column.{lists};
+ghost use Rattle.column_store.specs.Draft.{zero_columns, zero_tables};
+ghost use Rattle.witness_reader.specs.Putting.{AreColumnsSpelled, AreTablesSpelled};
 
 use crate::fault::{WitnessFault, WitnessKind, WitnessPlace, WitnessStop};
-use column_store::{Store, spells_bits, written_bits};
+use column_store::{Draft, SizeStop, Store, spells_bits, written_bits};
 use hex::FromHexError;
 use serde_json::{Map, Value};
 use sqlite_items::Items;
 use std::alloc::Global;
 use std::str;
-use table_shape::{ColumnShape, MAX_ROWS, MAX_SIZE_LOG, Shape, TableShape, size_log};
+use table_shape::{ColumnKind, ColumnShape, MAX_ROWS, Shape, TableShape};
 
 /// The values that a witness file gives to the columns of tables, or its first fault.
 ///
 /// The last of equal members of an object counts.
 pub fn read_witness(alloc: Global, shape: &Shape, file: &[u8]) -> Result<Store, WitnessStop>
-    ensures found { IfOk result (λ store. (store.tables ≡ shape.now) × IsOf shape.now file.now store.rows store.filling) }
-    ensures fills { IfOk result (λ store. IsFilling store.tables store.rows store.filling) }
-    ensures refused { (stop : WitnessStop) → result ≡ Err stop → stop ≢ WitnessStop.NoMemory → witness_of shape.now file.now ≡ Err stop }
+    ensures found { IfOk result (λ store. (store.shape ≡ shape.now) × IsOf shape.now.tables file.now store.rows store.filling) }
+    ensures fills { IfOk result (λ store. IsFilling store.shape.tables store.rows store.filling) }
+    ensures refused { (stop : WitnessStop) → result ≡ Err stop → stop ≢ WitnessStop.NoMemory → witness_of shape.now.tables file.now ≡ Err stop }
 {
-    let (rows, bytes) = witness_of(alloc, shape, file)?;
-    let own = shape.copy(alloc)?;
-    Ok(Store::of(own, rows, bytes))
+    let (mut draft, bytes) = witness_of(alloc, shape, file)?;
+    put_tables(&mut draft, shape.tables(), bytes.as_slice());
+    Ok(draft.fill())
 }
 
 /// What it means that a witness is read: the file has an object for each table, with its rows and
-/// the bytes of each column, and nothing else.
+/// the bytes of each committed column, and nothing else.
 pub fn read_where_given()
     ensures { IsReadWhereGiven }
 {}
 
 type TableBytes = Items<Items<u8>>;
 
-/// The rows of the tables, and the bytes of their columns.
+/// A draft of zeros on the rows of the tables, and the bytes of their columns.
 fn witness_of(
     alloc: Global,
     shape: &Shape,
     file: &[u8],
-) -> Result<(Items<u32>, Items<TableBytes>), WitnessStop>
-    ensures { Gives (λ w. record { rows = w.0; bytes = w.1 }) result (witness_of shape.now file.now) }
+) -> Result<(Draft, Items<TableBytes>), WitnessStop>
+    ensures given { Gives (λ w. record { rows = w.0.rows; bytes = w.1 }) result (witness_of shape.now.tables file.now) }
+    ensures begun { IfOk result (λ w. w.0 ≡ record { shape = shape.now; rows = w.0.rows; values = zero_tables shape.now.tables w.0.rows }) }
 {
     let json = json_of(alloc, file)?;
     let Some(whole) = json.as_object() else {
         return Err(refused(WitnessPlace::Whole, WitnessKind::NotAnObject));
     };
     let rows = rows_of_tables(alloc, shape.tables(), whole)?;
-    let log_bits = size_log(shape, rows.as_slice());
-    if log_bits > MAX_SIZE_LOG {
-        return Err(WitnessStop::TooLarge { log_bits });
-    }
+    let draft = match Draft::new(alloc, shape, rows.as_slice()) {
+        Ok(draft) => draft,
+        Err(SizeStop::TooLarge { log_bits }) => return Err(WitnessStop::TooLarge { log_bits }),
+        Err(SizeStop::NoMemory) => return Err(WitnessStop::NoMemory),
+    };
     let bytes = tables_bytes(alloc, shape.tables(), whole)?;
     if has_other_table(shape.tables(), whole) {
         return Err(refused(WitnessPlace::Whole, WitnessKind::ExtraTable));
     }
-    Ok((rows, bytes))
+    Ok((draft, bytes))
+}
+
+/// Puts the bytes of all committed columns into a draft of zeros.
+fn put_tables(draft: &mut Draft, tables: &[TableShape], bytes: &[TableBytes])
+    requires shape { draft.old.shape.tables ≡ tables.now }
+    requires few { length tables.now ≤ max_tables }
+    requires fit { (t : ℕ) (table : Table) → slice_get tables.now t ≡ Some table → TableFits table }
+    requires spelled { AreTablesSpelled tables.now draft.old.rows bytes.now }
+    requires zero { draft.old.values ≡ zero_tables tables.now draft.old.rows }
+    ensures { draft.new ≡ record draft.old { values = all_values tables.now draft.old.rows bytes.now } }
+{
+    for (t, table) in tables.iter().enumerate() {
+        put_columns(draft, t as u32, table, bytes[t].as_slice());
+    }
+}
+
+/// Puts those of a table's committed columns, which are zero.
+fn put_columns(draft: &mut Draft, t: u32, table: &TableShape, bytes: &[Items<u8>])
+    requires table { slice_get draft.old.shape.tables t ≡ Some table.now }
+    requires few { length table.now.columns ≤ max_columns }
+    requires place { t < length draft.old.values }
+    requires spelled { AreColumnsSpelled (slice_index draft.old.rows t) table.now.columns bytes.now }
+    requires zero { slice_index_or draft.old.values t [] ≡ lists (zero_columns (slice_index draft.old.rows t) table.now.columns) }
+    ensures { draft.new ≡ record draft.old { values = slice_set draft.old.values t (table_values (slice_index draft.old.rows t) table.now.columns bytes.now) } }
+{
+    let columns = table.columns.as_slice();
+    for c in 0..columns.len() {
+        if is_committed(&columns[c]) {
+            draft.put_bits(t, c as u32, bytes[c].as_slice());
+        }
+    }
+}
+
+fn is_committed(column: &ColumnShape) -> bool
+    ensures { result ≡ is_committed column.now.kind }
+{
+    match column.kind {
+        ColumnKind::Committed => true,
+        ColumnKind::Virtual(_) => false,
+    }
 }
 
 fn refused(place: WitnessPlace, kind: WitnessKind) -> WitnessStop
@@ -162,7 +209,7 @@ fn tables_bytes(
     whole: &Map<String, Value>,
 ) -> Result<Items<TableBytes>, WitnessStop>
     requires few { length tables.now ≤ max_tables }
-    requires fit { TablesFit tables.now }
+    requires fit { (t : ℕ) (table : Table) → slice_get tables.now t ≡ Some table → TableFits table }
     ensures { (objects : List (Members × ℕ)) → objects_of 0 tables.now (members_view whole.now.entries) ≡ Ok objects
         → Gives (λ bytes. bytes) result (tables_bytes 0 tables.now objects) }
 {
@@ -201,16 +248,36 @@ fn columns_bytes(
     object: &Map<String, Value>,
 ) -> Result<TableBytes, WitnessStop>
     requires few { length columns.now ≤ max_columns }
-    requires fit { ColumnsFit columns.now }
+    requires sized { AreSized columns.now }
     requires rows_few { rows ≤ max_rows }
     ensures { Gives (λ bytes. bytes) result (columns_bytes t 0 rows columns.now (members_view object.now.entries)) }
 {
     let mut all = Items::new(alloc);
     for (c, column) in columns.iter().enumerate() {
-        let bytes = column_bytes(alloc, t, c as u32, rows, column, object)?;
+        let bytes = given_bytes(alloc, t, c as u32, rows, column, object)?;
         all.push(bytes)?;
     }
     Ok(all)
+}
+
+/// The bytes that a column is given: a virtual one has none.
+fn given_bytes(
+    alloc: Global,
+    t: u32,
+    c: u32,
+    rows: u32,
+    column: &ColumnShape,
+    object: &Map<String, Value>,
+) -> Result<Items<u8>, WitnessStop>
+    requires rows_few { rows ≤ max_rows }
+    requires level { column.now.level ≤ max_level }
+    requires values { column.now.log_values ≤ max_log_values }
+    ensures { Gives (λ bytes. bytes) result (given_bytes t c rows column.now (members_view object.now.entries) column.now.kind) }
+{
+    match column.kind {
+        ColumnKind::Committed => column_bytes(alloc, t, c, rows, column, object),
+        ColumnKind::Virtual(_) => Ok(Items::new(alloc)),
+    }
 }
 
 fn column_bytes(
@@ -255,15 +322,22 @@ fn hex_bytes(alloc: Global, place: WitnessPlace, text: &str) -> Result<Items<u8>
 }
 
 fn has_other_column(columns: &[ColumnShape], object: &Map<String, Value>) -> bool
-    ensures { result ≡ has_other (codes "rows" ∷ map (λ c. c.name) columns.now) (members_view object.now.entries) }
+    ensures { result ≡ has_other (codes "rows" ∷ committed_names columns.now) (members_view object.now.entries) }
 {
     object.keys().any(|key| !is_column(columns, key.as_bytes()))
 }
 
 fn is_column(columns: &[ColumnShape], key: &[u8]) -> bool
-    ensures { result ≡ list_any (bytes_eq key.now) (codes "rows" ∷ map (λ c. c.name) columns.now) }
+    ensures { result ≡ list_any (bytes_eq key.now) (codes "rows" ∷ committed_names columns.now) }
 {
-    key == b"rows".as_slice() || columns.iter().any(|column| key == column.name.as_slice())
+    key == b"rows".as_slice() || columns.iter().any(|column| is_given_as(column, key))
+}
+
+/// Whether a column is committed and has this name.
+fn is_given_as(column: &ColumnShape, name: &[u8]) -> bool
+    ensures { result ≡ (is_committed column.now.kind && bytes_eq name.now column.now.name) }
+{
+    is_committed(column) && name == column.name.as_slice()
 }
 
 fn has_other_table(tables: &[TableShape], whole: &Map<String, Value>) -> bool
