@@ -2,6 +2,8 @@
 #![tactic(auto)]
 
 mod fault;
+#[cfg(test)]
+mod tests;
 mod witness;
 
 pub use fault::{WitnessFault, WitnessKind, WitnessPlace, WitnessStop};
