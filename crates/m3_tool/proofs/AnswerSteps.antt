@@ -19,6 +19,7 @@ use Rattle.m3_tool.specs.declared.check.Shaped.{Shaped}
 use Rattle.m3_tool.specs.declared.check.Shaped.TheVariants as shaped
 use Rattle.witness_reader.specs.Witness.{WitnessData, IsOf, filling_of}
 use Rattle.m3_tool.specs.Checking.{IsShaped, IsShapedFile}
+use Rattle.table_shape.specs.Parts.{ShapeParts}
 use Rattle.table_shape.specs.Filling.{Filling}
 use Rattle.table_shape.specs.Satisfies.{Violation, IsFirstViolation}
 use Rattle.m3_tool.specs.Lines.{violation_line, too_long_line, shape_fault_line}
@@ -94,7 +95,7 @@ long_witness tables witness a long is =
     subst (λ b. MatchBool b (a ≡ answer TooLong (too_long_line max_witness_file)) (IsWitnessAnswer tables witness a)) (sym longer) is
 
 -- a file of tables whose shape is known, and the answer to the witness
-pub shaped_check : (text witness : List ℕ) (tables : List TableShape) (a : Answer) → IsShapedFile text (shaped.Shape tables) → IsWitnessFileAnswer tables witness a → IsCheckAnswer text witness a
-shaped_check text witness tables a (within, once, (decls, is, shape)) answered =
+pub shaped_check : (text witness : List ℕ) (shape : ShapeParts) (a : Answer) → IsShapedFile text (shaped.Shape shape) → IsWitnessFileAnswer shape.tables witness a → IsCheckAnswer text witness a
+shaped_check text witness shape a (within, once, (decls, is, found)) answered =
     within_tables text witness a within
-    (inr (decls, is, subst (λ (r : Result (List TableShape) ShapeFault). MatchResult r (λ ts. IsWitnessFileAnswer ts witness a) (λ fault. a ≡ answer Tables (shape_fault_line fault))) (sym shape) answered))
+    (inr (decls, is, subst (λ (r : Result ShapeParts ShapeFault). MatchResult r (λ s. IsWitnessFileAnswer s.tables witness a) (λ fault. a ≡ answer Tables (shape_fault_line fault))) (sym found) answered))

@@ -7,6 +7,7 @@ use Rattle.table_text.specs.declared.decl.Decl.{Decl}
 use Rattle.table_text.specs.declared.fault.TextFault.{TextFault}
 use Rattle.m3_tool.specs.Limits.{max_tables_file, max_witness_file}
 use Rattle.table_shape.specs.declared.shape.TableShape.{TableShape}
+use Rattle.table_shape.specs.Parts.{ShapeParts}
 use Rattle.table_shape.specs.declared.fault.ShapeFault.{ShapeFault}
 use Rattle.witness_reader.specs.declared.fault.WitnessStop.{WitnessStop}
 use Rattle.m3_tool.specs.declared.status.Status.{Status}
@@ -48,10 +49,10 @@ witness_file_once : (tables : List TableShape) (witness : List ℕ) (a b : Answe
 witness_file_once tables witness a b p q =
     file_once (nat_lt max_witness_file (length witness)) max_witness_file (IsWitnessAnswer tables witness) a b (λ x y. witness_once tables (witness_of tables witness) a b x y) p q
 
-shape_once : (witness : List ℕ) (r : Result (List TableShape) ShapeFault) (refusal : ShapeFault → Answer) (a b : Answer)
-    → MatchResult r (λ tables. IsWitnessFileAnswer tables witness a) (λ fault. a ≡ refusal fault)
-    → MatchResult r (λ tables. IsWitnessFileAnswer tables witness b) (λ fault. b ≡ refusal fault) → b.status ≡ a.status
-shape_once witness (Ok tables) refusal a b p q = witness_file_once tables witness a b p q
+shape_once : (witness : List ℕ) (r : Result ShapeParts ShapeFault) (refusal : ShapeFault → Answer) (a b : Answer)
+    → MatchResult r (λ shape. IsWitnessFileAnswer shape.tables witness a) (λ fault. a ≡ refusal fault)
+    → MatchResult r (λ shape. IsWitnessFileAnswer shape.tables witness b) (λ fault. b ≡ refusal fault) → b.status ≡ a.status
+shape_once witness (Ok shape) refusal a b p q = witness_file_once shape.tables witness a b p q
 shape_once witness (Err fault) refusal a b p q = ap (λ (x : Answer). x.status) (q ∙ sym p)
 
 text_once : (text witness : List ℕ) (a b : Answer) → IsReadOnce text → IsTextAnswer text witness a → IsTextAnswer text witness b → b.status ≡ a.status

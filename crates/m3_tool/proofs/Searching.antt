@@ -1,30 +1,30 @@
 -- Steps of the search for the first value that isn't 0.
-use Rattle.std.proofs.Common.{◌≡◌, ℕ, ◌<◌, ◌+◌, ◌^◌, List, length, Some, sym, ◌∙◌, subst, arith, below_more}
+use Rattle.std.proofs.Common.{◌≡◌, ℕ, ◌<◌, ◌+◌, ◌^◌, List, [], length, Some, sym, ◌∙◌, subst, arith, below_more}
 use Rattle.std.specs.List.{slice_get, slice_index}
+use Rattle.std.specs.Prelude.{slice_index_or}
 use Rattle.std.proofs.lemmas.Option.{slice_get_within}
 use Rattle.table_shape.specs.declared.shape.ConstraintShape.{ConstraintShape}
 use Rattle.table_shape.specs.declared.shape.TableShape.{TableShape}
 use Rattle.table_shape.specs.Filling.{Filling}
-use Rattle.table_shape.specs.Satisfies.{value_at, IsZeroOnRows, AreZero, TablesAreZero, IsFirstViolation}
-use Rattle.m3_tool.specs.Judging.{seen, IsZeroAtIndices, IsFirstInRow, IsFirstFound, IsFirstInTable}
+use Rattle.table_shape.specs.Satisfies.{IsZeroOnRows, AreZero, TablesAreZero, IsFirstViolation}
+use Rattle.m3_tool.specs.Judging.{seen, value_of, IsZeroOn, IsZeroAtIndices, IsFirstInRow, IsFirstFound, IsFirstInTable}
 use Rattle.m3_tool.specs.declared.judge.Found.{Found}
 use Rattle.m3_tool.specs.declared.judge.Violation.{Violation as OwnViolation}
 
-pub IsZeroOnRows-more : (filling : Filling) (t : ℕ) (constraint : ConstraintShape) (n : ℕ)
-    → IsZeroOnRows filling t constraint n → IsZeroAtIndices filling t constraint n (2 ^ constraint.log_values) → IsZeroOnRows filling t constraint (n + 1)
-IsZeroOnRows-more filling t constraint n before here row index below =
-    let P : ℕ → Type 0 = λ row. index < 2 ^ constraint.log_values → value_at filling t constraint row index ≡ 0 in
+pub IsZeroOn-more : (lists : List (List ℕ)) (constraint : ConstraintShape) (n : ℕ) → IsZeroOn lists constraint n → IsZeroAtIndices lists constraint n (2 ^ constraint.log_values) → IsZeroOn lists constraint (n + 1)
+IsZeroOn-more lists constraint n before here row index below =
+    let P : ℕ → Type 0 = λ row. index < 2 ^ constraint.log_values → value_of lists constraint row index ≡ 0 in
     below_more P n (λ row h at. before row index h at) (here index) row below
 
-pub found_in_row : (filling : Filling) (t : ℕ) (constraint : ConstraintShape) (n rows : ℕ) (found : Found)
-    → n < rows → IsZeroOnRows filling t constraint n → IsFirstInRow filling t constraint n found → IsFirstFound filling t constraint rows found
-found_in_row filling t constraint n rows found below before first = record {
+pub found_in_row : (lists : List (List ℕ)) (constraint : ConstraintShape) (n rows : ℕ) (found : Found)
+    → n < rows → IsZeroOn lists constraint n → IsFirstInRow lists constraint n found → IsFirstFound lists constraint rows found
+found_in_row lists constraint n rows found below before first = record {
   row = omega (arith, first.row_is);
   index = first.index;
-  value = subst (λ (r : ℕ). found.value ≡ value_at filling t constraint r found.index) (sym first.row_is) first.value;
+  value = subst (λ (r : ℕ). found.value ≡ value_of lists constraint r found.index) (sym first.row_is) first.value;
   not_zero = first.not_zero;
-  rows_before = subst (λ (r : ℕ). IsZeroOnRows filling t constraint r) (sym first.row_is) before;
-  indices_before = subst (λ (r : ℕ). IsZeroAtIndices filling t constraint r found.index) (sym first.row_is) first.before;
+  rows_before = subst (λ (r : ℕ). IsZeroOn lists constraint r) (sym first.row_is) before;
+  indices_before = subst (λ (r : ℕ). IsZeroAtIndices lists constraint r found.index) (sym first.row_is) first.before;
 }
 
 pub AreZero-more : (filling : Filling) (t : ℕ) (table : TableShape) (rows n : ℕ) (here : ConstraintShape)
@@ -54,8 +54,8 @@ pub found_in_table : (filling : Filling) (tables : List TableShape) (rows : List
     → slice_get tables n ≡ Some table → TablesAreZero tables rows filling n → v.table ≡ n → IsFirstInTable filling table (slice_index rows n) v → IsFirstViolation tables rows filling (seen v)
 found_in_table filling tables rows n table v at before is first =
     let same : n ≡ v.table = sym is in
-    let found : IsFirstFound filling v.table first.constraint (slice_index rows v.table) (record { row = v.row; index = v.index; value = v.value }) =
-    subst (λ (m : ℕ). IsFirstFound filling v.table first.constraint (slice_index rows m) (record { row = v.row; index = v.index; value = v.value })) same first.found in
+    let found : IsFirstFound (slice_index_or filling v.table []) first.constraint (slice_index rows v.table) (record { row = v.row; index = v.index; value = v.value }) =
+    subst (λ (m : ℕ). IsFirstFound (slice_index_or filling v.table []) first.constraint (slice_index rows m) (record { row = v.row; index = v.index; value = v.value })) same first.found in
     record {
       table = table;
       constraint = first.constraint;

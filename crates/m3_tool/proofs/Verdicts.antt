@@ -6,7 +6,7 @@ use Rattle.std.proofs.lemmas.Bool.Decides.{nat_tests}
 use Rattle.table_text.specs.declared.decl.Decl.{Decl}
 use Rattle.table_text.specs.Faults.{IsTablesText}
 use Rattle.m3_tool.specs.Limits.{max_tables_file, max_witness_file}
-use Rattle.table_shape.specs.declared.shape.TableShape.{TableShape}
+use Rattle.table_shape.specs.Parts.{ShapeParts}
 use Rattle.table_shape.specs.declared.fault.ShapeFault.{ShapeFault}
 use Rattle.witness_reader.specs.declared.fault.WitnessStop.{WitnessStop}
 use Rattle.witness_reader.specs.declared.fault.WitnessStop.TheVariants as stop
@@ -55,25 +55,25 @@ refusal stop.NoMemory h = h
 -- tables and a witness were read, and the witness was judged
 record IsJudged (text witness : List ℕ) (a : Answer) : Type 0 where
   read : HasWitness text witness
-  judgement : IsJudgement read.shape.tables read.given.rows (filling_of read.shape.tables read.given) a
+  judgement : IsJudgement read.shape.parts.tables read.given.rows (filling_of read.shape.parts.tables read.given) a
 
-of_witness : (text witness : List ℕ) (shape : HasShape text) (a : Answer) (r : Result WitnessData WitnessStop) → length witness ≤ max_witness_file → witness_of shape.tables witness ≡ r
-    → MatchResult r (λ (w : WitnessData). IsJudgement shape.tables w.rows (filling_of shape.tables w) a) (λ stop. a ≡ witness_refusal stop) → IsVerdictStatus a.status → IsJudged text witness a
+of_witness : (text witness : List ℕ) (shape : HasShape text) (a : Answer) (r : Result WitnessData WitnessStop) → length witness ≤ max_witness_file → witness_of shape.parts.tables witness ≡ r
+    → MatchResult r (λ (w : WitnessData). IsJudgement shape.parts.tables w.rows (filling_of shape.parts.tables w) a) (λ stop. a ≡ witness_refusal stop) → IsVerdictStatus a.status → IsJudged text witness a
 of_witness text witness shape a (Ok w) within read p h = record {
-  read = record { shape = shape; given = w; within = within; witness_is = (read_where_given shape.tables witness w).0 read };
+  read = record { shape = shape; given = w; within = within; witness_is = (read_where_given shape.parts.tables witness w).0 read };
   judgement = p;
 }
 of_witness text witness shape a (Err s) within read p h = absurd (refusal s (verdict_of a (witness_refusal s) p h))
 
 of_file : (text witness : List ℕ) (shape : HasShape text) (a : Answer) (t : Bool) → nat_lt max_witness_file (length witness) ≡ t
-    → MatchBool t (a ≡ answer TooLong (too_long_line max_witness_file)) (IsWitnessAnswer shape.tables witness a) → IsVerdictStatus a.status → IsJudged text witness a
+    → MatchBool t (a ≡ answer TooLong (too_long_line max_witness_file)) (IsWitnessAnswer shape.parts.tables witness a) → IsVerdictStatus a.status → IsJudged text witness a
 of_file text witness shape a true long p h = absurd (verdict_of a (answer TooLong (too_long_line max_witness_file)) p h)
-of_file text witness shape a false long p h = of_witness text witness shape a (witness_of shape.tables witness) (not_longer max_witness_file (length witness) long) refl p h
+of_file text witness shape a false long p h = of_witness text witness shape a (witness_of shape.parts.tables witness) (not_longer max_witness_file (length witness) long) refl p h
 
-of_shape : (text witness : List ℕ) (decls : List Decl) (a : Answer) (r : Result (List TableShape) ShapeFault) → length text ≤ max_tables_file → IsTablesText text decls → shape_of decls ≡ r
-    → MatchResult r (λ shape. IsWitnessFileAnswer shape witness a) (λ fault. a ≡ answer Tables (shape_fault_line fault)) → IsVerdictStatus a.status → IsJudged text witness a
+of_shape : (text witness : List ℕ) (decls : List Decl) (a : Answer) (r : Result ShapeParts ShapeFault) → length text ≤ max_tables_file → IsTablesText text decls → shape_of decls ≡ r
+    → MatchResult r (λ shape. IsWitnessFileAnswer shape.tables witness a) (λ fault. a ≡ answer Tables (shape_fault_line fault)) → IsVerdictStatus a.status → IsJudged text witness a
 of_shape text witness decls a (Ok tables) within is shaped p h =
-    of_file text witness (record { decls = decls; tables = tables; within = within; text_is = is; shape_is = (shaped_where_meant decls tables).0 shaped }) a (nat_lt max_witness_file (length witness)) refl p h
+    of_file text witness (record { decls = decls; parts = tables; within = within; text_is = is; shape_is = (shaped_where_meant decls tables).0 shaped }) a (nat_lt max_witness_file (length witness)) refl p h
 of_shape text witness decls a (Err fault) within is shaped p h = absurd (verdict_of a (answer Tables (shape_fault_line fault)) p h)
 
 of_text : (text witness : List ℕ) (a : Answer) → length text ≤ max_tables_file → IsTextAnswer text witness a → IsVerdictStatus a.status → IsJudged text witness a
@@ -97,30 +97,30 @@ apart e = cc
 pub satisfied : (text witness : List ℕ) (a : Answer) → IsCheckAnswer text witness a → a.status ≡ Yes → IsSatisfied text witness × (a.line ≡ satisfied_line)
 satisfied text witness a p is_yes = let j = judged text witness a p (yes_or_no a Yes is_yes tt) in by_judgement j j.judgement
   where
-    by_judgement : (j : IsJudged text witness a) → IsJudgement j.read.shape.tables j.read.given.rows (filling_of j.read.shape.tables j.read.given) a → IsSatisfied text witness × (a.line ≡ satisfied_line)
+    by_judgement : (j : IsJudged text witness a) → IsJudgement j.read.shape.parts.tables j.read.given.rows (filling_of j.read.shape.parts.tables j.read.given) a → IsSatisfied text witness × (a.line ≡ satisfied_line)
     by_judgement j (inl q) = (record { read = j.read; satisfies = q.0 }, ap (λ (x : Answer). x.line) q.1)
     by_judgement j (inr (v, first, q)) = absurd (apart (sym is_yes ∙ ap (λ (x : Answer). x.status) q))
 
 pub violated : (text witness : List ℕ) (a : Answer) → IsCheckAnswer text witness a → a.status ≡ No → IsViolated text witness a.line
 violated text witness a p is_no = let j = judged text witness a p (yes_or_no a No is_no tt) in by_judgement j j.judgement
   where
-    by_judgement : (j : IsJudged text witness a) → IsJudgement j.read.shape.tables j.read.given.rows (filling_of j.read.shape.tables j.read.given) a → IsViolated text witness a.line
+    by_judgement : (j : IsJudged text witness a) → IsJudgement j.read.shape.parts.tables j.read.given.rows (filling_of j.read.shape.parts.tables j.read.given) a → IsViolated text witness a.line
     by_judgement j (inl q) = absurd (apart (sym (ap (λ (x : Answer). x.status) q.1) ∙ is_no))
     by_judgement j (inr (v, first, q)) = record { read = j.read; violation = v; first = first; line_is = ap (λ (x : Answer). x.line) q }
 
 -- what the values are judged to be is due to the files that give them
-judgement_due : (text witness : List ℕ) (a : Answer) (read : HasWitness text witness) → IsJudgement read.shape.tables read.given.rows (filling_of read.shape.tables read.given) a → IsCheckAnswer text witness a
+judgement_due : (text witness : List ℕ) (a : Answer) (read : HasWitness text witness) → IsJudgement read.shape.parts.tables read.given.rows (filling_of read.shape.parts.tables read.given) a → IsCheckAnswer text witness a
 judgement_due text witness a read judged =
-    let shaped = (shaped_where_meant read.shape.decls read.shape.tables).1 read.shape.shape_is in
-    let given = (read_where_given read.shape.tables witness read.given).1 read.witness_is in
-    let witness_due : IsWitnessAnswer read.shape.tables witness a =
-    subst (λ (r : Result WitnessData WitnessStop). MatchResult r (λ (w : WitnessData). IsJudgement read.shape.tables w.rows (filling_of read.shape.tables w) a) (λ stop. a ≡ witness_refusal stop)) (sym given) judged in
-    let file_due = within_witness read.shape.tables witness a read.within witness_due in
+    let shaped = (shaped_where_meant read.shape.decls read.shape.parts).1 read.shape.shape_is in
+    let given = (read_where_given read.shape.parts.tables witness read.given).1 read.witness_is in
+    let witness_due : IsWitnessAnswer read.shape.parts.tables witness a =
+    subst (λ (r : Result WitnessData WitnessStop). MatchResult r (λ (w : WitnessData). IsJudgement read.shape.parts.tables w.rows (filling_of read.shape.parts.tables w) a) (λ stop. a ≡ witness_refusal stop)) (sym given) judged in
+    let file_due = within_witness read.shape.parts.tables witness a read.within witness_due in
     within_tables text witness a read.shape.within
     (inr (
       read.shape.decls,
       read.shape.text_is,
-      subst (λ (r : Result (List TableShape) ShapeFault). MatchResult r (λ ts. IsWitnessFileAnswer ts witness a) (λ fault. a ≡ answer Tables (shape_fault_line fault))) (sym shaped) file_due,
+      subst (λ (r : Result ShapeParts ShapeFault). MatchResult r (λ s. IsWitnessFileAnswer s.tables witness a) (λ fault. a ≡ answer Tables (shape_fault_line fault))) (sym shaped) file_due,
     ))
 
 pub satisfied_due : (text witness : List ℕ) → IsSatisfied text witness → IsCheckAnswer text witness (answer Yes satisfied_line)
@@ -130,8 +130,8 @@ pub violated_due : (text witness line : List ℕ) → IsViolated text witness li
 violated_due text witness line is = judgement_due text witness (answer No line) is.read (inr (is.violation, is.first, ap (answer No) is.line_is))
 
 -- the file of tables whose shape was found
-pub has_shape : (text : List ℕ) (tables : List TableShape) → IsShapedFile text (shaped.Shape tables) → HasShape text
-has_shape text tables (within, once, (decls, is, shape)) = record { decls = decls; tables = tables; within = within; text_is = is; shape_is = (shaped_where_meant decls tables).0 shape }
+pub has_shape : (text : List ℕ) (tables : ShapeParts) → IsShapedFile text (shaped.Shape tables) → HasShape text
+has_shape text tables (within, once, (decls, is, shape)) = record { decls = decls; parts = tables; within = within; text_is = is; shape_is = (shaped_where_meant decls tables).0 shape }
 
 on_read_fault : {X : Type 0} (r : Result X Stop) (P Q : Type 0) → (P → Q) → OnReadFault r P → OnReadFault r Q
 on_read_fault (Ok x) P Q f p = p
@@ -139,7 +139,7 @@ on_read_fault (Err ended.ReadFault) P Q f p = f p
 on_read_fault (Err ended.NoMemory) P Q f p = p
 
 -- a read of the witness that failed after the shape was found
-pub witness_read_failed : (old mid new : ShelfState) (tables witness : List ℕ) (shape : Shaped) (shapes : List TableShape) (r : Result OwnAnswer Stop) → shape ≡ shaped.Shape shapes
+pub witness_read_failed : (old mid new : ShelfState) (tables witness : List ℕ) (shape : Shaped) (shapes : ShapeParts) (r : Result OwnAnswer Stop) → shape ≡ shaped.Shape shapes
     → (IsTrue old.told → IsShapedFile (bytes_of old tables) shape) → ReadsOnly old mid → SameFaults old mid → OnReadFault r (ReadFailed mid new witness) → OnReadFault r (CheckReadsFailed old new tables witness)
 witness_read_failed old mid new tables witness shape shapes r is found kept same failed =
     on_read_fault r (ReadFailed mid new witness) (CheckReadsFailed old new tables witness)

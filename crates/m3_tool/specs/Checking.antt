@@ -16,12 +16,12 @@ use Rattle.m3_tool.specs.Answer.{answer_of, IsFileReadOnce}
 
 -- the text of a shape, or the answer to a text that has none, whatever the witness is
 abbrev pub IsShaped : List ℕ → Shaped → Type 0
-IsShaped text (shaped.Shape tables) = (decls : List Decl) × IsTablesText text decls × (shape_of decls ≡ Ok tables)
+IsShaped text (shaped.Shape shape) = (decls : List Decl) × IsTablesText text decls × (shape_of decls ≡ Ok shape)
 IsShaped text (shaped.Refused a) = (witness : List ℕ) → IsTextAnswer text witness (answer_of a)
 
 -- the same of a file, which may be too long
 abbrev pub IsShapedFile : List ℕ → Shaped → Type 0
-IsShapedFile text (shaped.Shape tables) = (length text ≤ max_tables_file) × IsFileReadOnce text × IsShaped text (shaped.Shape tables)
+IsShapedFile text (shaped.Shape shape) = (length text ≤ max_tables_file) × IsFileReadOnce text × IsShaped text (shaped.Shape shape)
 IsShapedFile text (shaped.Refused a) = IsFileReadOnce text × ((witness : List ℕ) → IsCheckAnswer text witness (answer_of a))
 
 abbrev pub OnReadFault : {X : Type 0} → Result X Stop → Type 0 → Type 0
@@ -48,5 +48,5 @@ EndsCheck WriteFault = ⊥
 EndsCheck NoMemory = ⊥
 
 abbrev pub RefusalEndsCheck : Shaped → Type 0
-RefusalEndsCheck (shaped.Shape tables) = Unit {0}
+RefusalEndsCheck (shaped.Shape shape) = Unit {0}
 RefusalEndsCheck (shaped.Refused a) = EndsCheck a.status

@@ -1,49 +1,63 @@
 -- The first value that isn't 0, searched part by part.
 -- Source: docs/ARCHITECTURE.md, "Within m3_tool".
-use Rattle.std.specs.Prelude.{◌≡◌, ◌≢◌, ℕ, ◌^◌, ◌<◌, List, slice_get, Some, Option, MatchOption}
+use Rattle.std.specs.Prelude.{◌≡◌, ◌≢◌, ℕ, ◌+◌, ◌*◌, ◌^◌, ◌<◌, List, [], slice_get, slice_index, slice_index_or, Some, Option, MatchOption}
 use Rattle.table_shape.specs.declared.shape.ConstraintShape.{ConstraintShape}
 use Rattle.table_shape.specs.declared.shape.TableShape.{TableShape}
 use Rattle.m3_tool.specs.declared.judge.Found.{Found}
 use Rattle.m3_tool.specs.declared.judge.Violation.{Violation as OwnViolation}
 use Rattle.m3_tool.specs.declared.judge.Verdict.{Verdict}
 use Rattle.m3_tool.specs.declared.judge.Verdict.TheVariants.{Satisfied, Violated}
+use Rattle.column_store.specs.Column.{ColumnValues, list_of, lists}
+use Rattle.table_shape.specs.Value.{value}
 use Rattle.table_shape.specs.Filling.{Filling}
-use Rattle.table_shape.specs.Satisfies.{value_at, IsZeroOnRows, AreZero, Satisfies, Violation, IsFirstViolation}
+use Rattle.table_shape.specs.Satisfies.{AreZero, Satisfies, Violation, IsFirstViolation}
 
 -- a violation as definitions have it
 abbrev pub seen : OwnViolation → Violation
 seen v = record { table = v.table; constraint = v.constraint; row = v.row; index = v.index; value = v.value }
 
+-- the value of each of these columns at a position
+abbrev pub values_in : List ColumnValues → ℕ → ℕ → ℕ
+values_in columns position c = slice_index (list_of (lists columns) c) position
+
+-- the value of a constraint at a row and an index, by the lists of its table's columns
+abbrev pub value_of : List (List ℕ) → ConstraintShape → ℕ → ℕ → ℕ
+value_of lists constraint row index = value (λ c. slice_index (slice_index_or lists c []) (row * 2 ^ constraint.log_values + index)) constraint.expr
+
+-- a constraint is 0 at each index of each of the first rows
+abbrev pub IsZeroOn : List (List ℕ) → ConstraintShape → ℕ → Type 0
+IsZeroOn lists constraint rows = (row index : ℕ) → row < rows → index < 2 ^ constraint.log_values → value_of lists constraint row index ≡ 0
+
 -- the first indices of a row, n of them, have the value 0
-abbrev pub IsZeroAtIndices : Filling → ℕ → ConstraintShape → ℕ → ℕ → Type 0
-IsZeroAtIndices filling t constraint row n = (index : ℕ) → index < n → value_at filling t constraint row index ≡ 0
+abbrev pub IsZeroAtIndices : List (List ℕ) → ConstraintShape → ℕ → ℕ → Type 0
+IsZeroAtIndices lists constraint row n = (index : ℕ) → index < n → value_of lists constraint row index ≡ 0
 
 -- the first value of a constraint in a row that isn't 0
-pub record IsFirstInRow (filling : Filling) (t : ℕ) (constraint : ConstraintShape) (row : ℕ) (found : Found) : Type 0 where
+pub record IsFirstInRow (lists : List (List ℕ)) (constraint : ConstraintShape) (row : ℕ) (found : Found) : Type 0 where
   pub row_is : found.row ≡ row
   pub index : found.index < 2 ^ constraint.log_values
-  pub value : found.value ≡ value_at filling t constraint row found.index
+  pub value : found.value ≡ value_of lists constraint row found.index
   pub not_zero : found.value ≢ 0
-  pub before : IsZeroAtIndices filling t constraint row found.index
+  pub before : IsZeroAtIndices lists constraint row found.index
 
 -- the first value of a constraint that isn't 0
-pub record IsFirstFound (filling : Filling) (t : ℕ) (constraint : ConstraintShape) (rows : ℕ) (found : Found) : Type 0 where
+pub record IsFirstFound (lists : List (List ℕ)) (constraint : ConstraintShape) (rows : ℕ) (found : Found) : Type 0 where
   pub row : found.row < rows
   pub index : found.index < 2 ^ constraint.log_values
-  pub value : found.value ≡ value_at filling t constraint found.row found.index
+  pub value : found.value ≡ value_of lists constraint found.row found.index
   pub not_zero : found.value ≢ 0
-  pub rows_before : IsZeroOnRows filling t constraint found.row
-  pub indices_before : IsZeroAtIndices filling t constraint found.row found.index
+  pub rows_before : IsZeroOn lists constraint found.row
+  pub indices_before : IsZeroAtIndices lists constraint found.row found.index
 
 -- a search through the first rows finds the first value that isn't 0, or all are 0
-abbrev pub FindsFirst : Filling → ℕ → ConstraintShape → ℕ → Option Found → Type 0
-FindsFirst filling t constraint rows found = MatchOption found (IsZeroOnRows filling t constraint rows) (IsFirstFound filling t constraint rows)
+abbrev pub FindsFirst : List (List ℕ) → ConstraintShape → ℕ → Option Found → Type 0
+FindsFirst lists constraint rows found = MatchOption found (IsZeroOn lists constraint rows) (IsFirstFound lists constraint rows)
 
 -- a constraint of a table whose first value that isn't 0 is this, after constraints that are 0
 pub record IsFirstInTable (filling : Filling) (table : TableShape) (rows : ℕ) (v : OwnViolation) : Type 0 where
   pub constraint : ConstraintShape
   pub is : slice_get table.constraints v.constraint ≡ Some constraint
-  pub found : IsFirstFound filling v.table constraint rows (record { row = v.row; index = v.index; value = v.value })
+  pub found : IsFirstFound (slice_index_or filling v.table []) constraint rows (record { row = v.row; index = v.index; value = v.value })
   pub before : AreZero filling v.table table rows v.constraint
 
 abbrev pub FindsFirstInTable : Filling → ℕ → TableShape → ℕ → ℕ → Option OwnViolation → Type 0

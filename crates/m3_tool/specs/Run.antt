@@ -12,6 +12,7 @@ use Rattle.witness_reader.specs.declared.fault.WitnessStop.{WitnessStop}
 use Rattle.witness_reader.specs.declared.fault.WitnessStop.TheVariants as stop
 use Rattle.m3_tool.specs.declared.status.Status.{Status}
 use Rattle.m3_tool.specs.declared.status.Status.TheVariants.{Yes, No, Words, Tables, Witness, ReadFault, WriteFault, TooLarge, NoMemory, TooLong}
+use Rattle.table_shape.specs.Parts.{ShapeParts}
 use Rattle.table_shape.specs.Shape.{shape_of}
 use Rattle.table_shape.specs.ShapeMeaning.{IsShape}
 use Rattle.table_shape.specs.Filling.{Filling}
@@ -50,7 +51,7 @@ IsWitnessFileAnswer tables witness a = MatchBool (nat_lt max_witness_file (lengt
 
 -- the declarations have no shape, or the witness is read
 abbrev pub IsShapeAnswer : List Decl → List ℕ → Answer → Type 0
-IsShapeAnswer decls witness a = MatchResult (shape_of decls) (λ tables. IsWitnessFileAnswer tables witness a) (λ fault. a ≡ answer Tables (shape_fault_line fault))
+IsShapeAnswer decls witness a = MatchResult (shape_of decls) (λ shape. IsWitnessFileAnswer shape.tables witness a) (λ fault. a ≡ answer Tables (shape_fault_line fault))
 
 -- the text has a fault, or its declarations are resolved
 abbrev pub IsTextAnswer : List ℕ → List ℕ → Answer → Type 0
@@ -91,28 +92,28 @@ is_outside TooLong = false
 -- a text of tables within its limit, that has declarations with a shape
 pub record HasShape (text : List ℕ) : Type 0 where
   pub decls : List Decl
-  pub tables : List TableShape
+  pub parts : ShapeParts
   pub within : length text ≤ max_tables_file
   pub text_is : IsTablesText text decls
-  pub shape_is : IsShape decls tables
+  pub shape_is : IsShape decls parts
 
 -- such a text, and a witness within its limit that gives values to its columns
 pub record HasWitness (text witness : List ℕ) : Type 0 where
   pub shape : HasShape text
   pub given : WitnessData
   pub within : length witness ≤ max_witness_file
-  pub witness_is : GivesWitness shape.tables witness given
+  pub witness_is : GivesWitness shape.parts.tables witness given
 
 -- a witness that gives values which satisfy the tables
 pub record IsSatisfied (text witness : List ℕ) : Type 0 where
   pub read : HasWitness text witness
-  pub satisfies : Satisfies read.shape.tables read.given.rows (filling_of read.shape.tables read.given)
+  pub satisfies : Satisfies read.shape.parts.tables read.given.rows (filling_of read.shape.parts.tables read.given)
 
 -- a witness that gives values which violate the tables, and the line that says where first
 pub record IsViolated (text witness line : List ℕ) : Type 0 where
   pub read : HasWitness text witness
   pub violation : Violation
-  pub first : IsFirstViolation read.shape.tables read.given.rows (filling_of read.shape.tables read.given) violation
+  pub first : IsFirstViolation read.shape.parts.tables read.given.rows (filling_of read.shape.parts.tables read.given) violation
   pub line_is : line ≡ violation_line first.table first.constraint violation
 
 -- a read of a file has failed that is due: where the files are told, what the command reads before it is accepted

@@ -117,7 +117,7 @@ fn answer_to_file<S: Shelf>(
     name: &str,
     shape: &Shape,
 ) -> Result<Answer, Stop>
-    ensures due { IsTrue (S.state shelf.old).told → IfOk result (λ a. IsWitnessFileAnswer shape.now (bytes_of (S.state shelf.old) name.now) (answer_of a)) }
+    ensures due { IsTrue (S.state shelf.old).told → IfOk result (λ a. IsWitnessFileAnswer shape.now.tables (bytes_of (S.state shelf.old) name.now) (answer_of a)) }
     ensures kind { IfOk result (λ a. EndsCheck a.status) }
     ensures failed { OnReadFault result (ReadFailed (S.state shelf.old) (S.state shelf.new) name.now) }
     ensures quiet { UnlessReadFault result (SameFaults (S.state shelf.old) (S.state shelf.new)) }
@@ -136,7 +136,7 @@ fn answer_to_file<S: Shelf>(
 
 /// The answer to the bytes of a witness.
 fn witness_answer(alloc: Global, shape: &Shape, file: &[u8]) -> Result<Answer, AllocError>
-    ensures due { IfOk result (λ a. IsWitnessAnswer shape.now file.now (answer_of a)) }
+    ensures due { IfOk result (λ a. IsWitnessAnswer shape.now.tables file.now (answer_of a)) }
     ensures kind { IfOk result (λ a. EndsCheck a.status) }
 {
     match read_witness(alloc, shape, file) {
@@ -153,7 +153,7 @@ fn witness_answer(alloc: Global, shape: &Shape, file: &[u8]) -> Result<Answer, A
 
 /// Whether the values satisfy the tables.
 fn judged(alloc: Global, store: &Store) -> Result<Answer, AllocError>
-    ensures judged { IfOk result (λ a. IsJudgement store.now.tables store.now.rows store.now.filling (answer_of a)) }
+    ensures judged { IfOk result (λ a. IsJudgement store.now.shape.tables store.now.rows store.now.filling (answer_of a)) }
     ensures kind { IfOk result (λ a. EndsCheck a.status) }
 {
     let violation = match judge(store) {

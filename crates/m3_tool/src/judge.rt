@@ -2,14 +2,14 @@
 
 ghost use Rattle.table_text.specs.Limits.{max_level, max_log_values};
 ghost use Rattle.table_shape.specs.Limits.{max_rows};
-ghost use Rattle.std.specs.Prelude.{◌≡◌, ◌≤◌, ◌<◌, ◌^◌, IfNone, IfSome, IsSome, length, map};
+ghost use Rattle.std.specs.Prelude.{◌≡◌, ◌≤◌, ◌<◌, ◌^◌, IfNone, IfSome, IsSome, length, map, slice_index};
 ghost use Rattle.table_shape.specs.Value.{value};
 ghost use Rattle.tower_laws.specs.Lists.{product_all, sum_all};
-ghost use Rattle.table_shape.specs.Shape.{TableFits};
-ghost use Rattle.table_shape.specs.Filling.{values_at};
-ghost use Rattle.m3_tool.specs.Judging.{IsZeroAtIndices, IsFirstInRow, FindsFirst, FindsFirstInTable, IsVerdict};
+ghost use Rattle.table_shape.specs.Fits.{TableFits};
+ghost use Rattle.column_store.specs.Column.{list_of, lists};
+ghost use Rattle.m3_tool.specs.Judging.{values_in, IsZeroAtIndices, IsFirstInRow, FindsFirst, FindsFirstInTable, IsVerdict};
 
-use column_store::Store;
+use column_store::{Column, Store};
 use table_shape::{ColumnShape, ConstraintShape, ShapeExpr, TableShape, ceil_log};
 use tower_field::{B128, Tower, by_level, lift};
 
@@ -38,57 +38,67 @@ pub struct Found {
     pub value: B128,
 }
 
+/// The number of a column's value at a position, and 0 where there is none.
+fn number_at(columns: &[Column], column: u32, position: usize) -> u128
+    ensures { result ≡ slice_index (list_of (lists columns.now) column) position }
+{
+    match columns.get(column as usize) {
+        Some(column) => column.get(position),
+        None => 0,
+    }
+}
+
 /// The value of an expression over the columns of a table at a position, in the field of F. None
 /// where a number of it, or a value of its columns, is no element of that field.
 #[cycle(values)]
-fn value_in<F: Tower>(store: &Store, table: u32, expr: &ShapeExpr, position: u32) -> Option<F>
-    ensures value { IfSome result (λ element. F.number element ≡ value (values_at store.now.filling table position) expr.now) }
+fn value_in<F: Tower>(columns: &[Column], expr: &ShapeExpr, position: usize) -> Option<F>
+    ensures value { IfSome result (λ element. F.number element ≡ value (values_in columns.now position) expr.now) }
     ensures whole { max_level ≤ F.LEVEL → IsSome result }
 {
     match expr {
         ShapeExpr::Number(n) => F::from_number(n.number()),
-        ShapeExpr::Column(column) => F::from_number(store.value(table, *column, position).number()),
-        ShapeExpr::Sum(parts) => sum_in(store, table, parts.as_slice(), position),
-        ShapeExpr::Product(parts) => product_in(store, table, parts.as_slice(), position),
+        ShapeExpr::Column(column) => F::from_number(number_at(columns, *column, position)),
+        ShapeExpr::Sum(parts) => sum_in(columns, parts.as_slice(), position),
+        ShapeExpr::Product(parts) => product_in(columns, parts.as_slice(), position),
     }
 }
 
 #[cycle(values)]
-fn sum_in<F: Tower>(store: &Store, table: u32, parts: &[ShapeExpr], position: u32) -> Option<F>
-    ensures value { IfSome result (λ element. F.number element ≡ sum_all (map (value (values_at store.now.filling table position)) parts.now)) }
+fn sum_in<F: Tower>(columns: &[Column], parts: &[ShapeExpr], position: usize) -> Option<F>
+    ensures value { IfSome result (λ element. F.number element ≡ sum_all (map (value (values_in columns.now position)) parts.now)) }
     ensures whole { max_level ≤ F.LEVEL → IsSome result }
 {
     let mut sum = F::ZERO;
     for part in parts {
-        sum = sum.add(value_in(store, table, part, position)?);
+        sum = sum.add(value_in(columns, part, position)?);
     }
     Some(sum)
 }
 
 #[cycle(values)]
-fn product_in<F: Tower>(store: &Store, table: u32, parts: &[ShapeExpr], position: u32) -> Option<F>
-    ensures value { IfSome result (λ element. F.number element ≡ product_all (map (value (values_at store.now.filling table position)) parts.now)) }
+fn product_in<F: Tower>(columns: &[Column], parts: &[ShapeExpr], position: usize) -> Option<F>
+    ensures value { IfSome result (λ element. F.number element ≡ product_all (map (value (values_in columns.now position)) parts.now)) }
     ensures whole { max_level ≤ F.LEVEL → IsSome result }
 {
     let Some((first, others)) = parts.split_first() else {
         return Some(F::ONE);
     };
-    let mut product: F = value_in(store, table, first, position)?;
+    let mut product: F = value_in(columns, first, position)?;
     for part in others {
-        product = product.mul(value_in(store, table, part, position)?);
+        product = product.mul(value_in(columns, part, position)?);
     }
     Some(product)
 }
 
 /// The value of an expression at a position. It is computed in the field of F where that has all
 /// parts, which costs less the smaller the field is.
-fn value_by<F: Tower>(store: &Store, table: u32, expr: &ShapeExpr, position: u32) -> B128
-    ensures { result ≡ value (values_at store.now.filling table position) expr.now }
+fn value_by<F: Tower>(columns: &[Column], expr: &ShapeExpr, position: usize) -> B128
+    ensures { result ≡ value (values_in columns.now position) expr.now }
 {
-    if let Some(element) = value_in::<F>(store, table, expr, position) {
+    if let Some(element) = value_in::<F>(columns, expr, position) {
         return lift(element);
     }
-    match value_in::<B128>(store, table, expr, position) {
+    match value_in::<B128>(columns, expr, position) {
         Some(element) => element,
         None => unreachable!(),
     }
@@ -133,19 +143,18 @@ fn values_per_row(log_values: u32) -> u32
 
 /// The first value of a constraint in a row that isn't 0, computed in the field of F.
 fn first_in_row<F: Tower>(
-    store: &Store,
-    table: u32,
+    columns: &[Column],
     constraint: &ConstraintShape,
     row: u32,
 ) -> Option<Found>
     requires row { row < max_rows }
     requires log_values { constraint.now.log_values ≤ max_log_values }
-    ensures none { IfNone result (IsZeroAtIndices store.now.filling table constraint.now row (2 ^ constraint.now.log_values)) }
-    ensures first { IfSome result (IsFirstInRow store.now.filling table constraint.now row) }
+    ensures none { IfNone result (IsZeroAtIndices (lists columns.now) constraint.now row (2 ^ constraint.now.log_values)) }
+    ensures first { IfSome result (IsFirstInRow (lists columns.now) constraint.now row) }
 {
     let count = values_per_row(constraint.log_values);
     for index in 0..count {
-        let value = value_by::<F>(store, table, &constraint.expr, row * count + index);
+        let value = value_by::<F>(columns, &constraint.expr, (row * count + index) as usize);
         if value != B128::ZERO {
             return Some(Found { row, index, value });
         }
@@ -155,17 +164,16 @@ fn first_in_row<F: Tower>(
 
 /// The first value of a constraint in the first rows that isn't 0, computed in the field of F.
 fn first_in_rows<F: Tower>(
-    store: &Store,
-    table: u32,
+    columns: &[Column],
     constraint: &ConstraintShape,
     rows: u32,
 ) -> Option<Found>
     requires rows { rows ≤ max_rows }
     requires log_values { constraint.now.log_values ≤ max_log_values }
-    ensures { FindsFirst store.now.filling table constraint.now rows result }
+    ensures { FindsFirst (lists columns.now) constraint.now rows result }
 {
     for row in 0..rows {
-        if let Some(found) = first_in_row::<F>(store, table, constraint, row) {
+        if let Some(found) = first_in_row::<F>(columns, constraint, row) {
             return Some(found);
         }
     }
@@ -174,28 +182,29 @@ fn first_in_rows<F: Tower>(
 
 /// The first value of a constraint in the first rows that isn't 0, computed in the field of a level.
 fn first_at_level(
-    store: &Store,
-    table: u32,
+    columns: &[Column],
     constraint: &ConstraintShape,
     rows: u32,
     level: u32,
 ) -> Option<Found>
     requires rows { rows ≤ max_rows }
     requires log_values { constraint.now.log_values ≤ max_log_values }
-    ensures { FindsFirst store.now.filling table constraint.now rows result }
+    ensures { FindsFirst (lists columns.now) constraint.now rows result }
 {
-    by_level!(level, first_in_rows(store, table, constraint, rows))
+    by_level!(level, first_in_rows(columns, constraint, rows))
 }
 
 /// The first violation of a table.
 fn first_in_table(store: &Store, number: u32, table: &TableShape, rows: u32) -> Option<Violation>
+    requires there { number < length store.now.shape.tables }
     requires rows { rows ≤ max_rows }
     requires fits { TableFits table.now }
     ensures { FindsFirstInTable store.now.filling number table.now rows (length table.now.constraints) result }
 {
+    let columns = store.columns(number);
     for (constraint_number, constraint) in table.constraints.as_slice().iter().enumerate() {
         let level = level_of(&constraint.expr, table.columns.as_slice());
-        if let Some(found) = first_at_level(store, number, constraint, rows, level) {
+        if let Some(found) = first_at_level(columns, constraint, rows, level) {
             return Some(Violation {
                 table: number,
                 constraint: constraint_number as u32,
@@ -211,7 +220,7 @@ fn first_in_table(store: &Store, number: u32, table: &TableShape, rows: u32) -> 
 /// Whether the values satisfy the tables, and the first violation where they don't: the first
 /// value that isn't 0 in the order of table, constraint, row and index.
 pub fn judge(store: &Store) -> Verdict
-    ensures { IsVerdict store.now.tables store.now.rows store.now.filling result }
+    ensures { IsVerdict store.now.shape.tables store.now.rows store.now.filling result }
 {
     let rows = store.rows();
     for (number, table) in store.shape().tables().iter().enumerate() {

@@ -122,6 +122,11 @@ fn shape_kind_name(kind: ShapeKind) -> &'static str
     match kind {
         ShapeKind::UnknownName => "UnknownName",
         ShapeKind::DoubleName => "DoubleName",
+        ShapeKind::LevelTooHigh => "LevelTooHigh",
+        ShapeKind::UnequalWidth => "UnequalWidth",
+        ShapeKind::BlockTooLong => "BlockTooLong",
+        ShapeKind::OffsetOutOfRange => "OffsetOutOfRange",
+        ShapeKind::RepeatedTerm => "RepeatedTerm",
         ShapeKind::DegreeTooHigh => "DegreeTooHigh",
         ShapeKind::TooMany => "TooMany",
         ShapeKind::NotBuilt => "NotBuilt",

@@ -112,6 +112,3 @@ pub fn run<S: Shelf, W: Sink>(alloc: Global, words: &[String], shelf: &mut S, ou
         Err(WriteFault) => Status::WriteFault,
     }
 }
-
-#[cfg(test)]
-mod tests;

@@ -1,14 +1,14 @@
-use Rattle.std.proofs.Common.{refl, arith}
+use Rattle.std.proofs.Common.{refl, subst, arith}
 use Rattle.std.proofs.lemmas.Option.{slice_get_read}
 use Rattle.m3_tool.proofs.Searching.{AreZero-more}
-use Rattle.table_shape.proofs.Fits.{ConstraintsFit-get}
+use Rattle.m3_tool.specs.Judging.{IsZeroOn, IsFirstFound}
 use Rattle.m3_tool.proofs.judge.first_in_table.Goals as goal
 
 pub first_at_level-requires-clause-log_values : goal.first_at_level-requires-clause-log_values
 first_at_level-requires-clause-log_values c =
     let item = rw c.as_slice-constraint-items.ensures at c.constraint-item.is in
     let below = rw c.as_slice-constraint-items.ensures at c.loop-constraint_number-test.true in
-    rw item (ConstraintsFit-get _ _ _ c.requires.fits.constraints below)
+    (c.requires.fits.constraints c.loop-constraint_number.constraint_number c.constraint-item.result (slice_get_read _ _ _ _ refl below item)).log_values
 
 pub returns-in-Some : goal.returns-in-Some
 returns-in-Some c =
@@ -18,7 +18,7 @@ returns-in-Some c =
       record {
         constraint = c.constraint-item.result;
         is = slice_get_read _ _ _ _ refl below item;
-        found = c.in-Some.ensures;
+        found = subst (λ ls. IsFirstFound ls c.constraint-item.result c.args.rows c.in-Some.found) c.columns-columns.ensures c.in-Some.ensures;
         before = c.loop-constraint_number.invariant;
       },
     )
@@ -27,7 +27,7 @@ pub loop-constraint_number-preserved : goal.loop-constraint_number-preserved
 loop-constraint_number-preserved c =
     let item = rw c.as_slice-constraint-items.ensures at c.constraint-item.is in
     let below = rw c.as_slice-constraint-items.ensures at c.loop-constraint_number-test.true in
-    AreZero-more c.args.store.now.filling c.args.number c.args.table.now c.args.rows c.loop-constraint_number.constraint_number c.constraint-item.result (slice_get_read _ _ _ _ refl below item) c.loop-constraint_number.invariant c.in_default.ensures
+    AreZero-more c.args.store.now.filling c.args.number c.args.table.now c.args.rows c.loop-constraint_number.constraint_number c.constraint-item.result (slice_get_read _ _ _ _ refl below item) c.loop-constraint_number.invariant (subst (λ ls. IsZeroOn ls c.constraint-item.result c.args.rows) c.columns-columns.ensures c.in_default.ensures)
 
 pub returns : goal.returns
 returns c z constraint below at =
