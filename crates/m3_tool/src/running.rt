@@ -112,3 +112,6 @@ pub fn run<S: Shelf, W: Sink>(alloc: Global, words: &[String], shelf: &mut S, ou
         Err(WriteFault) => Status::WriteFault,
     }
 }
+
+#[cfg(test)]
+mod tests;
