@@ -6,7 +6,7 @@ use Rattle.std.proofs.lemmas.Nat.{one_shl, shl_whole, mul-le}
 use Rattle.std.proofs.Math.Nat.{pow-le-pow_right}
 use Rattle.table_shape.specs.declared.shape.ColumnShape.{ColumnShape}
 use Rattle.table_shape.specs.declared.shape.TableShape.{TableShape}
-use Rattle.table_shape.specs.Fits.{AreSized, TableFits, ShapeFits}
+use Rattle.table_shape.specs.Fits.{AreSized, ShapeFits}
 use Rattle.table_shape.specs.Parts.{ShapeParts}
 use Rattle.table_shape.specs.Size.{ceil_log, column_bits, columns_bits, tables_bits}
 use Rattle.table_shape.proofs.CeilLog.{at_most}

@@ -1,5 +1,5 @@
 -- A form whose names are known and whose checks are through is one of the columns before it.
-use Rattle.std.proofs.Common.{eqb-true, ◌≡◌, ℕ, zero, suc, ◌+◌, ◌-◌, ◌^◌, ◌<◌, ◌≤◌, ◌==◌, ◌||◌, ltb, leb, not, Bool, true, false, cond, List, [], ◌∷◌, ◌++◌, length, map, Option, Some, None, refl, sym, ◌∙◌, ap, subst, arith}
+use Rattle.std.proofs.Common.{eqb-true, ◌≡◌, ℕ, zero, suc, ◌+◌, ◌^◌, ◌<◌, ◌≤◌, ◌==◌, ltb, not, Bool, true, false, cond, List, [], ◌∷◌, length, map, Option, Some, None, refl, sym, ◌∙◌, ap, subst, arith}
 use Rattle.std.specs.List.{slice_get, list_any, list_all, position_from, AllByRecursion, IsDistinct}
 use Rattle.std.specs.Option.{option_map, IsSomeAnd}
 use Rattle.std.specs.Str.{bytes_eq}
@@ -14,8 +14,8 @@ use Rattle.table_shape.specs.declared.shape.ShapeForm.TheVariants as form
 use Rattle.table_shape.specs.declared.shape.ColumnKind.TheVariants.{Virtual}
 use Rattle.table_shape.specs.declared.shape.ColumnShape.{ColumnShape}
 use Rattle.table_shape.specs.Width.{log_values_at, terms_width}
-use Rattle.table_shape.specs.Forms.{level_at, linear_level}
-use Rattle.table_shape.specs.Shape.{number_of_name, all_some, resolved_term, resolved_form, terms_of, repeats, first_fault, block_checks, form_checks, form_level, form_log_values}
+use Rattle.table_shape.specs.Forms.{level_at}
+use Rattle.table_shape.specs.Shape.{number_of_name, all_some, resolved_term, resolved_form, terms_of, repeats, first_fault, block_checks, form_level, form_log_values}
 use Rattle.table_shape.specs.Checked.{IsChecked}
 use Rattle.table_shape.specs.Fits.{IsShiftOf, IsPackOf, IsProjectOf, IsLinearOf, IsFormOf, ColumnFits}
 

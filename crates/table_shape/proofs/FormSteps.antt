@@ -1,15 +1,13 @@
 -- Checks of a sum, one after the other.
-use Rattle.std.proofs.Common.{◌≡◌, ℕ, ◌==◌, Bool, true, false, List, Option, Some, Ok, Err, refl, ap, ◌∙◌}
+use Rattle.std.proofs.Common.{◌≡◌, ℕ, ◌==◌, Bool, true, false, List, Option, Some, Ok, refl, ap, ◌∙◌}
 use Rattle.std.specs.List.{list_all}
 use Rattle.std.specs.Option.{option_map}
 use Rattle.table_shape.specs.declared.shape.ColumnShape.{ColumnShape}
 use Rattle.table_shape.specs.declared.shape.ShapeTerm.{ShapeTerm}
-use Rattle.table_shape.specs.declared.shape.ShapeForm.{ShapeForm}
 use Rattle.table_shape.specs.declared.shape.ShapeForm.TheVariants as form
-use Rattle.table_shape.specs.declared.fault.ShapeFault.{ShapeFault}
-use Rattle.table_shape.specs.declared.fault.ShapeKind.TheVariants.{RepeatedTerm, UnequalWidth}
-use Rattle.table_shape.specs.Checked.{checked, checked_form}
-use Rattle.table_shape.specs.Shape.{fault, first_fault, repeats}
+use Rattle.table_shape.specs.declared.fault.ShapeKind.TheVariants.{UnequalWidth}
+use Rattle.table_shape.specs.Checked.{checked_form}
+use Rattle.table_shape.specs.Shape.{fault, repeats}
 use Rattle.table_shape.specs.Width.{log_values_at, terms_width}
 
 abbrev pub have_one_width : List ColumnShape → List ShapeTerm → Bool

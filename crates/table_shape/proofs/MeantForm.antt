@@ -1,5 +1,5 @@
 -- A virtual column that is one of those before it passes its checks.
-use Rattle.std.proofs.Common.{eq-eqb, ◌≡◌, ℕ, zero, suc, ◌+◌, ◌-◌, ◌^◌, ◌<◌, ◌≤◌, ◌==◌, ◌||◌, ltb, leb, not, Bool, true, false, List, [], ◌∷◌, ◌++◌, length, map, Option, Some, None, Ok, refl, sym, ◌∙◌, ap, subst, arith}
+use Rattle.std.proofs.Common.{eq-eqb, ◌≡◌, ℕ, suc, ◌+◌, ◌^◌, ◌<◌, ◌≤◌, ◌==◌, ◌||◌, ltb, leb, Bool, true, false, List, [], ◌∷◌, length, map, Option, Some, None, Ok, refl, sym, ◌∙◌, ap, subst, arith}
 use Rattle.std.specs.List.{slice_get, list_any, list_all, AllByRecursion, IsDistinct}
 use Rattle.std.specs.Option.{IsSomeAnd}
 use Rattle.std.specs.Str.{bytes_eq}
@@ -7,8 +7,6 @@ use Rattle.std.proofs.lemmas.Bool.{lt-ltb, le-ltb, lt-leb, or_from, and_from}
 use Rattle.table_text.specs.declared.decl.VirtualForm.{VirtualForm}
 use Rattle.table_text.specs.declared.decl.VirtualForm.TheVariants as virtual
 use Rattle.table_shape.specs.declared.fault.ShapeKind.TheVariants.{DoubleName, TooMany}
-use Rattle.table_shape.specs.declared.shape.ColumnKind.{ColumnKind}
-use Rattle.table_shape.specs.declared.shape.ColumnKind.TheVariants.{Virtual}
 use Rattle.table_shape.specs.declared.shape.ColumnShape.{ColumnShape}
 use Rattle.table_shape.specs.declared.shape.ShapeTerm.{ShapeTerm}
 use Rattle.table_shape.specs.declared.shape.ShapeForm.{ShapeForm}
@@ -18,7 +16,7 @@ use Rattle.table_shape.specs.Width.{log_values_at, terms_width}
 use Rattle.table_shape.specs.Forms.{level_at}
 use Rattle.table_shape.specs.Fits.{IsShiftOf, IsPackOf, IsProjectOf, IsLinearOf, IsFormOf}
 use Rattle.table_shape.specs.Checked.{IsChecked}
-use Rattle.table_shape.specs.Shape.{resolved_form, terms_of, repeats, first_fault, block_checks, form_checks, form_level, form_log_values, with_form, with_resolved_form, with_virtual}
+use Rattle.table_shape.specs.Shape.{resolved_form, terms_of, repeats, first_fault, block_checks, form_level, form_log_values, with_form, with_resolved_form, with_virtual}
 use Rattle.table_shape.specs.ShapeMeaning.{IsVirtual}
 use Rattle.table_shape.proofs.FitsSteps.{with_columns}
 use Rattle.table_shape.proofs.FormFits.{virtual_column, width_there, level_there, option_parts, terms_are_as_many}

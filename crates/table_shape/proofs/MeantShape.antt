@@ -1,5 +1,5 @@
 -- Declarations have a shape exactly where it is the one that they mean.
-use Rattle.std.proofs.Common.{◌≡◌, ◌↔◌, ℕ, ◌+◌, ◌<◌, ◌≤◌, Bool, not, true, false, cond, leb, ltb, List, [], ◌∷◌, ◌++◌, length, map, Option, Some, None, Result, Ok, Err, refl, sym, ap, subst, ◌∙◌, arith, append_assoc, length-append}
+use Rattle.std.proofs.Common.{◌≡◌, ◌↔◌, ℕ, ◌+◌, ◌<◌, ◌≤◌, not, true, false, leb, ltb, List, [], ◌∷◌, ◌++◌, length, map, Ok, refl, sym, ap, subst, ◌∙◌, arith, append_assoc, length-append}
 use Rattle.std.specs.List.{list_any, IsDistinct}
 use Rattle.std.specs.Str.{bytes_eq}
 use Rattle.std.proofs.lemmas.Bool.{lt-leb, le-ltb}
@@ -13,7 +13,6 @@ use Rattle.table_text.specs.declared.decl.Decl.TheVariants as decl
 use Rattle.table_shape.specs.declared.shape.ColumnShape.{ColumnShape}
 use Rattle.table_shape.specs.declared.shape.ConstraintShape.{ConstraintShape}
 use Rattle.table_shape.specs.declared.shape.TableShape.{TableShape}
-use Rattle.table_shape.specs.declared.fault.ShapeFault.{ShapeFault}
 use Rattle.table_shape.specs.declared.fault.ShapeKind.TheVariants.{DoubleName, UnequalWidth, DegreeTooHigh, TooMany}
 use Rattle.table_shape.specs.AndThen.{◌>>=◌}
 use Rattle.table_shape.specs.Parts.{ShapeParts}

@@ -1,5 +1,5 @@
 -- What stands where a declaration's checks are through.
-use Rattle.std.proofs.Common.{◌≡◌, ℕ, ◌+◌, ◌<◌, ◌≤◌, ◌||◌, Bool, not, true, false, cond, leb, ltb, List, [], ◌∷◌, ◌++◌, length, Option, Some, None, Result, Ok, Err, refl, sym, ap, subst, ◌∙◌, arith}
+use Rattle.std.proofs.Common.{◌≡◌, ℕ, ◌+◌, ◌<◌, ◌≤◌, ◌||◌, Bool, not, true, false, cond, leb, ltb, List, [], ◌∷◌, length, Option, Some, None, Result, Ok, Err, refl, sym, ap, ◌∙◌}
 use Rattle.std.specs.List.{list_any}
 use Rattle.std.specs.Str.{bytes_eq}
 use Rattle.std.proofs.lemmas.Bool.{leb-false, ltb-false, or_parts}
@@ -11,19 +11,16 @@ use Rattle.table_shape.specs.declared.shape.ColumnKind.TheVariants.{Committed}
 use Rattle.table_shape.specs.declared.shape.ColumnShape.{ColumnShape}
 use Rattle.table_shape.specs.declared.shape.ShapeExpr.{ShapeExpr}
 use Rattle.table_shape.specs.declared.shape.ShapeForm.{ShapeForm}
-use Rattle.table_shape.specs.declared.shape.ConstraintShape.{ConstraintShape}
 use Rattle.table_shape.specs.declared.shape.TableShape.{TableShape}
 use Rattle.table_shape.specs.declared.fault.ShapeFault.{ShapeFault}
-use Rattle.table_shape.specs.declared.fault.ShapeKind.{ShapeKind}
 use Rattle.table_shape.specs.declared.fault.ShapeKind.TheVariants.{DoubleName, UnequalWidth, DegreeTooHigh, TooMany}
-use Rattle.table_shape.specs.AndThen.{◌>>=◌}
 use Rattle.table_shape.specs.Checked.{IsChecked, checked_form}
 use Rattle.table_shape.specs.Value.{degree}
-use Rattle.table_shape.specs.Shape.{fault, resolved, resolved_form, terms_of, with_column, with_resolved_form, with_virtual, with_expr, with_constraint, with_item, with_items, begun_table}
+use Rattle.table_shape.specs.Shape.{resolved, resolved_form, terms_of, with_column, with_resolved_form, with_virtual, with_expr, with_constraint, with_item, with_items, begun_table}
 use Rattle.table_shape.proofs.AndThenSteps.{bind_ok}
 use Rattle.table_shape.proofs.FitsSteps.{with_columns, with_constraints, empty_table}
 use Rattle.table_shape.proofs.FormFits.{not_false}
-use Rattle.table_shape.proofs.VirtualSteps.{Passed, with_virtual_column, with_form_is, form_passed}
+use Rattle.table_shape.proofs.VirtualSteps.{with_virtual_column, with_form_is, form_passed}
 use Rattle.table_shape.proofs.ConstraintSteps.{constraint, equal_widths}
 
 -- ---- tests in a row

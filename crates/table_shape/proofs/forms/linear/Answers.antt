@@ -1,7 +1,7 @@
-use Rattle.std.proofs.Common.{◌≡◌, true, false, Some, Ok, ap, sym, ◌∙◌, map}
-use Rattle.table_shape.specs.Shape.{all_some, resolved_term, repeats}
+use Rattle.std.proofs.Common.{Ok, ap, sym, ◌∙◌}
+use Rattle.table_shape.specs.Shape.{repeats}
 use Rattle.table_shape.specs.declared.shape.ShapeForm.TheVariants as form
-use Rattle.table_shape.proofs.FormSteps.{linear_ok, linear_unequal, widths_are, have_one_width}
+use Rattle.table_shape.proofs.FormSteps.{linear_ok, linear_unequal, widths_are}
 use Rattle.table_shape.proofs.forms.linear.Goals as goal
 
 pub returns-then-not-have_width : goal.returns-then-not-have_width

@@ -1,17 +1,16 @@
-use Rattle.std.proofs.Common.{◌≡◌, ◌<◌, ◌≤◌, ltb, false, length, List, Ok, subst, sym, ap, ◌∙◌, arith}
+use Rattle.std.proofs.Common.{◌≡◌, ◌≤◌, false, length, List, Ok, subst, sym, ap, ◌∙◌, arith}
 use Rattle.std.specs.List.{list_any}
 use Rattle.std.specs.Str.{bytes_eq}
 use Rattle.std.proofs.lemmas.Bool.{ltb-false}
 use Rattle.table_shape.specs.declared.shape.ColumnShape.{ColumnShape}
 use Rattle.table_shape.specs.declared.shape.ShapeForm.{ShapeForm}
-use Rattle.table_shape.specs.declared.shape.TableShape.{TableShape}
 use Rattle.table_shape.specs.Checked.{IsChecked, checked_form}
 use Rattle.table_shape.specs.Fits.{TableFits}
 use Rattle.table_shape.specs.Shape.{form_level, form_log_values, resolved_form, terms_of}
-use Rattle.table_shape.specs.ShapeGives.{Gives, Refuses}
-use Rattle.table_shape.proofs.FitsSteps.{with_columns, column_pushed}
+use Rattle.table_shape.specs.ShapeGives.{Refuses}
+use Rattle.table_shape.proofs.FitsSteps.{column_pushed}
 use Rattle.table_shape.proofs.FormFits.{virtual_column, virtual_fits}
-use Rattle.table_shape.proofs.VirtualSteps.{Passed, virtual_due, form_passed, with_virtual_column, Refuses-bind, gives_refusal, column_is, push_is}
+use Rattle.table_shape.proofs.VirtualSteps.{virtual_due, form_passed, with_virtual_column, Refuses-bind, gives_refusal, column_is, push_is}
 use Rattle.table_shape.proofs.AndThenSteps.{bind_is}
 use Rattle.table_shape.proofs.forms.with_virtual.Goals as goal
 
