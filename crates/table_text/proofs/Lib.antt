@@ -15,3 +15,4 @@ pub mod Verdicts
 pub mod Levels
 pub mod Clauses
 pub mod Declared
+pub mod ExprTexts

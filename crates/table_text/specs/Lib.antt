@@ -11,3 +11,4 @@ pub mod Machine
 pub mod TokenMeaning
 pub mod Reading
 pub mod StepMeaning
+pub mod Canonical
