@@ -39,7 +39,6 @@ text_kind_name text.NumberTooWide = codes "NumberTooWide"
 text_kind_name text.NameTooLong = codes "NameTooLong"
 text_kind_name text.TooDeep = codes "TooDeep"
 text_kind_name text.TooMany = codes "TooMany"
-text_kind_name text.NotBuilt = codes "NotBuilt"
 
 abbrev pub text_fault_line : TextFault → List ℕ
 text_fault_line fault = codes "tables: " ++ text_kind_name fault.kind ++ codes " at byte " ++ decimal fault.place ++ codes "\n"

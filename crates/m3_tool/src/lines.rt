@@ -102,7 +102,6 @@ fn text_kind_name(kind: TextKind) -> &'static str
         TextKind::NameTooLong => "NameTooLong",
         TextKind::TooDeep => "TooDeep",
         TextKind::TooMany => "TooMany",
-        TextKind::NotBuilt => "NotBuilt",
     }
 }
 

@@ -102,9 +102,9 @@ once_item (flush_item side c w ws s) =
     (λ b. omega (arith, quiet (more_name_tokens ws) (mark close_paren ∷ selector_tokens s) (quiet_names ws) ends false))
 
 -- as many declarations begin with these tokens, and what follows them isn't behind `boundary`
-record Begun (tokens : List Token) (n : ℕ) : Type 0 where
-  begun : begun_from false tokens ≡ n
-  behind : behind_boundary false tokens ≡ false
+pub record Begun (tokens : List Token) (n : ℕ) : Type 0 where
+  pub begun : begun_from false tokens ≡ n
+  pub behind : behind_boundary false tokens ≡ false
 
 begun_both : (xs ys : List Token) (m n : ℕ) → begun_from false xs ≡ m → behind_boundary false xs ≡ false → Begun ys n → Begun (xs ++ ys) (m + n)
 begun_both xs ys m n x b y = record {
@@ -149,7 +149,7 @@ more_decls (channel_tree w n) f = omega arith
 more_decls (boundary_tree side c n ns) f = omega arith
 more_decls (table_tree w items) f = omega arith
 
-begun_file : (f : FileTree) → Begun (file_tokens f) (declarations (map decl_of f))
+pub begun_file : (f : FileTree) → Begun (file_tokens f) (declarations (map decl_of f))
 begun_file [] = record { begun = refl; behind = refl }
 begun_file (d ∷ f) =
     let one : Begun (decl_tokens d) (declarations (decl_of d ∷ [])) = begun_decl d in

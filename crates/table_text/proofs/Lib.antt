@@ -16,3 +16,12 @@ pub mod Levels
 pub mod Clauses
 pub mod Declared
 pub mod ExprTexts
+pub mod Lexes
+pub mod PrintedExprs
+pub mod PrintedDecls
+pub mod Nesting
+pub mod Depths
+pub mod ReadsAgain
+pub mod Proper
+pub mod ReadExprs
+pub mod ReadDecls

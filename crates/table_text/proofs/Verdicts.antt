@@ -16,7 +16,7 @@ use Rattle.table_text.specs.declared.decl.Decl.{Decl}
 use Rattle.table_text.specs.declared.progress.Progress.{Progress}
 use Rattle.table_text.specs.declared.fault.TextFault.{TextFault}
 use Rattle.table_text.specs.declared.fault.TextKind.{TextKind}
-use Rattle.table_text.specs.declared.fault.TextKind.TheVariants.{NotText, Unexpected, NumberTooWide, NameTooLong, TooDeep, TooMany, NotBuilt}
+use Rattle.table_text.specs.declared.fault.TextKind.TheVariants.{NotText, Unexpected, NumberTooWide, NameTooLong, TooDeep, TooMany}
 use Rattle.table_text.proofs.Judged.{IsProgress, is_begin, Verdict, judged, ends, ends_not, only_file}
 
 abbrev token_of : Spot → Token
@@ -57,7 +57,6 @@ taken_not_refused before t kind a r = by_kind kind (subst (λ o. MatchOption o (
     by_kind NotText g = g
     by_kind NumberTooWide g = g
     by_kind NameTooLong g = g
-    by_kind NotBuilt g = g
 
 no_mark_begins : (behind : Bool) (t : Token) → is_mark_of open_paren t ≡ true → begins_declaration behind t ≡ true → ⊥
 no_mark_begins behind (name w) a b = cc
@@ -73,25 +72,21 @@ one_kind before t Unexpected TooMany a b = absurd (a b.0)
 one_kind before t Unexpected NotText a b = absurd b
 one_kind before t Unexpected NumberTooWide a b = absurd b
 one_kind before t Unexpected NameTooLong a b = absurd b
-one_kind before t Unexpected NotBuilt a b = absurd b
 one_kind before t TooDeep Unexpected a b = absurd (b a.0)
 one_kind before t TooDeep TooDeep a b = refl
 one_kind before t TooDeep TooMany a b = absurd (no_mark_begins (behind_boundary false before) t a.1 b.1)
 one_kind before t TooDeep NotText a b = absurd b
 one_kind before t TooDeep NumberTooWide a b = absurd b
 one_kind before t TooDeep NameTooLong a b = absurd b
-one_kind before t TooDeep NotBuilt a b = absurd b
 one_kind before t TooMany Unexpected a b = absurd (b a.0)
 one_kind before t TooMany TooDeep a b = absurd (no_mark_begins (behind_boundary false before) t b.1 a.1)
 one_kind before t TooMany TooMany a b = refl
 one_kind before t TooMany NotText a b = absurd b
 one_kind before t TooMany NumberTooWide a b = absurd b
 one_kind before t TooMany NameTooLong a b = absurd b
-one_kind before t TooMany NotBuilt a b = absurd b
 one_kind before t NotText l a b = absurd a
 one_kind before t NumberTooWide l a b = absurd a
 one_kind before t NameTooLong l a b = absurd a
-one_kind before t NotBuilt l a b = absurd a
 
 one_kind_own : (before : List Token) (t : Token) (k l : TextKind) (o : Option TextKind) → MatchOption o (GrammarRefuses before t k) (λ own. k ≡ own) → MatchOption o (GrammarRefuses before t l) (λ own. l ≡ own) → k ≡ l
 one_kind_own before t k l None a b = one_kind before t k l a b

@@ -10,16 +10,12 @@ use Rattle.table_text.specs.Grammar.{IsFile, Begins}
 use Rattle.table_text.specs.declared.decl.Decl.{Decl}
 use Rattle.table_text.specs.declared.fault.TextFault.{TextFault}
 use Rattle.table_text.specs.declared.fault.TextKind.{TextKind}
-use Rattle.table_text.specs.declared.fault.TextKind.TheVariants.{NotText, Unexpected, NumberTooWide, NameTooLong, TooDeep, TooMany, NotBuilt}
-
--- words of the language that aren't read yet
-abbrev pub unbuilt_words : List (List ℕ)
-unbuilt_words = codes "channel" ∷ codes "boundary" ∷ codes "push" ∷ codes "pull" ∷ []
+use Rattle.table_text.specs.declared.fault.TextKind.TheVariants.{NotText, Unexpected, NumberTooWide, NameTooLong, TooDeep, TooMany}
 
 -- what is wrong with a token wherever it stands
 abbrev pub own_fault : Token → Option TextKind
 own_fault (name w) = None
-own_fault (reserved w) = if list_any (bytes_eq w) unbuilt_words then Some NotBuilt else None
+own_fault (reserved w) = None
 own_fault (number n) = None
 own_fault (mark b) = None
 own_fault (wrong kind) = Some kind
@@ -84,7 +80,6 @@ GrammarRefuses before token TooMany = Begins (before ++ token ∷ []) × (begins
 GrammarRefuses before token NotText = ⊥
 GrammarRefuses before token NumberTooWide = ⊥
 GrammarRefuses before token NameTooLong = ⊥
-GrammarRefuses before token NotBuilt = ⊥
 
 -- a token's own fault comes before what the grammar has against it
 abbrev pub IsRefused : List Token → Token → TextKind → Type 0

@@ -15,8 +15,6 @@ pub enum TextKind {
     TooDeep,
     /// The first word of the 65,536th declaration.
     TooMany,
-    /// A word of the language that isn't read yet.
-    NotBuilt,
 }
 
 /// The first fault of a text, and the place of its first byte.

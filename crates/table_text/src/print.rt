@@ -4,6 +4,7 @@ ghost use Rattle.std.specs.Prelude.{◌≡◌, ◌≤◌, [], ◌∷◌, ◌++�
 ghost use Rattle.std.specs.List.{flat_map};
 ghost use Rattle.std.specs.Fmt.{decimal};
 ghost use Rattle.table_text.specs.Grammar.{side_word, type_word};
+ghost use Rattle.table_text.specs.Faults.{IsTablesText};
 ghost use Rattle.table_text.specs.Limits.{max_level, max_log_values};
 ghost use Rattle.table_text.specs.Valid.{ItemLevelsFit, LevelsFit};
 ghost use Rattle.table_text.specs.Canonical.{joined, tuple, in_parens, sum_in_parens, product_in_parens, expr_text, term_text, constant_texts, shift_text, form_text, values_text, selector_text, item_text, item_line, decl_text, canonical};
@@ -410,9 +411,10 @@ impl Printer {
     }
 }
 
-/// The canonical text.
+/// The canonical text, which is a text of the same declarations.
 pub fn print_tables(alloc: Global, tables: &Tables) -> Result<Vec<u8>, NoMemory>
     ensures text { IfOk result (λ text. text.items ≡ canonical tables.now) }
+    ensures again { IfOk result (λ text. IsTablesText text.items tables.now) }
 {
     let mut printer = Printer {
         alloc,

@@ -5,7 +5,7 @@ ghost use Rattle.std.specs.Prelude.{◌≡◌};
 use crate::decl::{Decl, Decls};
 use std::marker::Model;
 
-/// Declarations in the order of their text.
+/// Valid declarations, in the order of their text.
 #[derive(Debug, Drop)]
 pub struct Tables {
     decls: Decls,
@@ -21,23 +21,24 @@ impl Model for Tables {
 
     ghost coded = { Prim.hlevel (codes, expr.the_row.coded) };
 
-    ghost use Rattle.std.specs.Prelude.{◌≤◌};
+    ghost use Rattle.std.specs.Prelude.{◌≤◌, IsTrue};
     ghost use Rattle.table_text.specs.Limits.{max_declarations};
-    ghost use Rattle.table_text.specs.Valid.{LevelsFit, declarations};
+    ghost use Rattle.table_text.specs.Valid.{LevelsFit, declarations, is_valid};
 
     ghost view = { λ t. t.decls };
 
-    ghost invariant = { λ t. LevelsFit t.decls × (declarations t.decls ≤ max_declarations) };
+    ghost invariant = { λ t. LevelsFit t.decls × (declarations t.decls ≤ max_declarations) × IsTrue (is_valid t.decls) };
 }
 
 impl Tables {
-    ghost use Rattle.std.specs.Prelude.{◌≤◌};
+    ghost use Rattle.std.specs.Prelude.{◌≤◌, IsTrue};
     ghost use Rattle.table_text.specs.Limits.{max_declarations};
-    ghost use Rattle.table_text.specs.Valid.{LevelsFit, declarations};
+    ghost use Rattle.table_text.specs.Valid.{LevelsFit, declarations, is_valid};
 
     pub(crate) fn new(decls: Decls) -> Tables
         requires levels { LevelsFit decls }
         requires few { declarations decls ≤ max_declarations }
+        requires valid { IsTrue (is_valid decls) }
         ensures { result ≡ decls }
     {
         Tables { decls }
@@ -48,6 +49,7 @@ impl Tables {
         ensures all { result.now ≡ self.now }
         ensures levels { LevelsFit self.now }
         ensures few { declarations self.now ≤ max_declarations }
+        ensures valid { IsTrue (is_valid self.now) }
     {
         self.decls.as_slice()
     }

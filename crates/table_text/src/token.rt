@@ -3,7 +3,7 @@
 ghost use Rattle.std.specs.Prelude.{◌≡◌, option_and_then};
 ghost use Rattle.std.specs.List.{list_any};
 ghost use Rattle.std.specs.Str.{bytes_eq};
-ghost use Rattle.table_text.specs.Faults.{is_mark_of, is_one_of, is_boundary, declaration_words, side_words, begins_declaration, own_fault, unbuilt_words};
+ghost use Rattle.table_text.specs.Faults.{is_mark_of, is_one_of, is_boundary, declaration_words, side_words, begins_declaration, own_fault};
 ghost use Rattle.table_text.specs.TokenClasses.{is_word, level_of, log_values_of, name_of, number_in};
 ghost use Rattle.table_text.specs.TokenMeaning.{shown};
 ghost use Rattle.table_text.specs.StepMeaning.{IsStepTo};
@@ -89,18 +89,8 @@ pub(crate) fn own_fault(token: Token<'_>) -> Option<TextKind>
 {
     match token {
         Token::Wrong(kind) => Some(kind),
-        Token::Reserved(word) if is_unbuilt(word) => Some(TextKind::NotBuilt),
         _ => None,
     }
-}
-
-fn is_unbuilt(word: &[u8]) -> bool
-    ensures { result ≡ list_any (bytes_eq word.now) unbuilt_words }
-{
-    word == b"channel".as_slice()
-        || word == b"boundary".as_slice()
-        || word == b"push".as_slice()
-        || word == b"pull".as_slice()
 }
 
 /// A word that isn't reserved, as a name.

@@ -14,8 +14,12 @@ fn printed(rt: &(impl Abort + AllocGlobal), text: &str) -> Vec<u8> {
     }
 }
 
-static TEXTS: [(&str, &str); 5] = [
+static TEXTS: [(&str, &str); 6] = [
     ("", ""),
+    (
+        "channel c:03;boundary push c(1,0x10,0);boundary pull c(7);table t{push c(a,b,a);pull c(a)if s;}",
+        "channel c : 3;\nboundary push c (1, 16, 0);\nboundary pull c (7);\ntable t {\n  push c (a, b, a);\n  pull c (a) if s;\n}\n",
+    ),
     ("# nothing\n", ""),
     ("table t{}table\tu{\r\n}", "table t {\n}\ntable u {\n}\n"),
     (

@@ -87,7 +87,7 @@ fn declarations(rt: HostRuntime) -> Result<(), Fail> {
     Ok(())
 }
 
-static FAULTS: [(&str, u32, TextKind); 66] = [
+static FAULTS: [(&str, u32, TextKind); 95] = [
     // What the grammar asks for isn't there.
     (
         "table t { column a : b1 zero z : a*a + a; }",
@@ -130,7 +130,7 @@ static FAULTS: [(&str, u32, TextKind); 66] = [
         TextKind::Unexpected,
     ),
     ("table t { virtual v = sum(a); }", 22, TextKind::Unexpected),
-    ("table t { virtual v = pull; }", 22, TextKind::NotBuilt),
+    ("table t { virtual v = pull; }", 22, TextKind::Unexpected),
     ("table t { virtual v = shl a; }", 26, TextKind::Unexpected),
     (
         "table t { virtual v = shl(5, a, 1); }",
@@ -234,11 +234,40 @@ static FAULTS: [(&str, u32, TextKind); 66] = [
     ("table { \u{e9}", 8, TextKind::NotText),
     ("table t { } \u{7f}", 12, TextKind::NotText),
     ("table t { } # \0", 14, TextKind::NotText),
-    // Words that aren't read yet, wherever they stand.
-    ("channel c : 1;", 0, TextKind::NotBuilt),
-    ("table t { pull c(a); }", 10, TextKind::NotBuilt),
-    ("table push { }", 6, TextKind::NotBuilt),
-    ("boundary", 0, TextKind::NotBuilt),
+    // Channels, boundaries and flushes.
+    ("channel : 1;", 8, TextKind::Unexpected),
+    ("channel c 1;", 10, TextKind::Unexpected),
+    ("channel c : w;", 12, TextKind::Unexpected),
+    ("channel c : 1, 2;", 13, TextKind::Unexpected),
+    ("channel push : 1;", 8, TextKind::Unexpected),
+    ("channel c : 1 }", 14, TextKind::Unexpected),
+    ("boundary c (1);", 9, TextKind::Unexpected),
+    ("boundary push (1);", 14, TextKind::Unexpected),
+    ("boundary push c 1;", 16, TextKind::Unexpected),
+    ("boundary push c ();", 17, TextKind::Unexpected),
+    ("boundary push c (a);", 17, TextKind::Unexpected),
+    ("boundary push c (1;", 18, TextKind::Unexpected),
+    ("boundary push c (1,);", 19, TextKind::Unexpected),
+    ("boundary push c (1 2);", 19, TextKind::Unexpected),
+    ("boundary push c (1) if s;", 20, TextKind::Unexpected),
+    ("boundary boundary", 9, TextKind::Unexpected),
+    ("push c (1);", 0, TextKind::Unexpected),
+    ("pull c (a);", 0, TextKind::Unexpected),
+    ("table push { }", 6, TextKind::Unexpected),
+    ("table t { channel c : 1; }", 10, TextKind::Unexpected),
+    ("table t { boundary push c (1); }", 10, TextKind::Unexpected),
+    ("table t { push (a); }", 15, TextKind::Unexpected),
+    ("table t { push c a; }", 17, TextKind::Unexpected),
+    ("table t { push c (); }", 18, TextKind::Unexpected),
+    ("table t { push c (1); }", 18, TextKind::Unexpected),
+    ("table t { pull c (a,); }", 20, TextKind::Unexpected),
+    ("table t { pull c (a b); }", 20, TextKind::Unexpected),
+    ("table t { pull c (a) s; }", 21, TextKind::Unexpected),
+    ("table t { pull c (a) if ; }", 24, TextKind::Unexpected),
+    ("table t { pull c (a) if 7; }", 24, TextKind::Unexpected),
+    ("table t { pull c (a) if s, u; }", 25, TextKind::Unexpected),
+    ("table t { pull c (a) if s }", 26, TextKind::Unexpected),
+    ("table t { push pull c (a); }", 15, TextKind::Unexpected),
     ("table t virtual", 8, TextKind::Unexpected),
     // Tokens are as long as possible.
     ("table t { zero z : 0x; }", 20, TextKind::Unexpected),
@@ -284,7 +313,27 @@ fn faults(rt: HostRuntime) -> Result<(), Fail> {
     Ok(())
 }
 
-static READINGS: [(&str, &str); 6] = [
+static READINGS: [(&str, &str); 11] = [
+    (
+        "channel sums : 3;",
+        "Tables { decls: Items { items: [Channel { name: Items { items: [115, 117, 109, 115] }, width: 3 }] } }",
+    ),
+    (
+        "boundary pull sums (1, 2, 3);",
+        "Tables { decls: Items { items: [Boundary { side: Pull, channel: Items { items: [115, 117, 109, 115] }, values: Items { items: [1, 2, 3] } }] } }",
+    ),
+    (
+        "boundary push c(0xffffffffffffffffffffffffffffffff);",
+        "Tables { decls: Items { items: [Boundary { side: Push, channel: Items { items: [99] }, values: Items { items: [340282366920938463463374607431768211455] } }] } }",
+    ),
+    (
+        "table t { push c (a); }",
+        "Tables { decls: Items { items: [Table { name: Items { items: [116] }, items: Items { items: [Flush { side: Push, channel: Items { items: [99] }, columns: Items { items: [Items { items: [97] }] }, selector: None }] } }] } }",
+    ),
+    (
+        "table t{pull b1(a,b,a)if s;}",
+        "Tables { decls: Items { items: [Table { name: Items { items: [116] }, items: Items { items: [Flush { side: Pull, channel: Items { items: [98, 49] }, columns: Items { items: [Items { items: [97] }, Items { items: [98] }, Items { items: [97] }] }, selector: Some(Items { items: [115] }) }] } }] } }",
+    ),
     ("", "Tables { decls: Items { items: [] } }"),
     ("# nothing", "Tables { decls: Items { items: [] } }"),
     ("\t\r\n #table\n", "Tables { decls: Items { items: [] } }"),
@@ -488,6 +537,17 @@ fn limits(rt: HostRuntime) -> Result<(), Fail> {
         panic!(rt; "65,536 declarations")
     };
     assert_eq!(rt; stop, fault(786417, TextKind::TooMany));
+
+    // A boundary is one declaration, and so is a flush.
+    let mut text = Vec::new(rt.alloc());
+    for _ in 0..65534 {
+        text.extend_from_slice(b"boundary push c(1);")?;
+    }
+    text.extend_from_slice(b"table t{pull")?;
+    let Err(stop) = answer(&rt, &text) else {
+        panic!(rt; "65,536 declarations")
+    };
+    assert_eq!(rt; stop, fault(65534 * 19 + 8, TextKind::TooMany));
     Ok(())
 }
 

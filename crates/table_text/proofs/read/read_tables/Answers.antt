@@ -3,6 +3,7 @@ use Rattle.std.proofs.lemmas.Result.{err_from_is_err_and}
 use Rattle.table_text.specs.Reading.{Gives, reading}
 use Rattle.table_text.proofs.Clauses.{levels, refused, reads, refuses}
 use Rattle.table_text.proofs.Declared.{few_declarations}
+use Rattle.table_text.proofs.ReadDecls.{read_valid}
 use Rattle.table_text.proofs.Verdicts.{tables-reading}
 use Rattle.table_text.proofs.read.read_tables.Goals as goal
 
@@ -27,6 +28,7 @@ returns-in_err-decls-clause-refuses c =
 pub new-requires : goal.new-requires
 new-requires c = record {
   levels = levels c.args.text.now c.in_ok-decls.decls c.in_ok-decls.ensures;
+  valid = read_valid c.args.text.now c.in_ok-decls.decls (tables-reading c.args.text.now c.in_ok-decls.decls c.in_ok-decls.ensures);
   few = few_declarations c.args.text.now c.in_ok-decls.decls (tables-reading c.args.text.now c.in_ok-decls.decls c.in_ok-decls.ensures);
 }
 
