@@ -2,13 +2,11 @@
 use Rattle.std.proofs.Common.{◌≡◌, ◌≢◌, ℕ, List, Result, Ok, Err, refl, sym, ◌∙◌, ap, subst}
 use Rattle.table_text.specs.Faults.{IsTablesText, IsFirstFault}
 use Rattle.table_text.specs.Reading.{Gives, reading}
-use Rattle.table_text.specs.Valid.{LevelsFit}
 use Rattle.table_text.specs.declared.decl.Decl.{Decl}
 use Rattle.table_text.specs.declared.fault.TextFault.{TextFault}
 use Rattle.table_text.specs.declared.fault.TextStop.{TextStop}
 use Rattle.table_text.specs.declared.fault.TextStop.TheVariants.{Fault, NoMemory}
-use Rattle.table_text.proofs.Verdicts.{reading-tables, tables-reading, reading-fault, fault-reading}
-use Rattle.table_text.proofs.Levels.{file_fits}
+use Rattle.table_text.proofs.Verdicts.{reading-tables, reading-fault, fault-reading}
 
 abbrev Read : Type 0
 Read = Result (List Decl) TextFault
@@ -21,9 +19,6 @@ same_err h f e = cc
 
 err_ok : (f : TextFault) (ds : List Decl) → ◌≡◌ {A = Read} (Err f) (Ok ds) → ⊥
 err_ok f ds e = cc
-
-pub levels : (text : List ℕ) (ds : List Decl) → reading text ≡ Ok ds → LevelsFit ds
-levels text ds e = file_fits _ ds (tables-reading text ds e).file
 
 pub refused : (text : List ℕ) (r : Result (List Decl) TextStop) (f : TextFault) → Gives r (reading text) → r ≡ Err (Fault f) → IsFirstFault text f
 refused text r f g e = let at : Gives (Err (Fault f)) (reading text) = subst (λ (s : Result (List Decl) TextStop). Gives s (reading text)) e g in fault-reading text f at

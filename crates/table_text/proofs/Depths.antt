@@ -1,5 +1,5 @@
 -- How many parentheses are open in the texts of expressions.
-use Rattle.std.proofs.Common.{◌≡◌, ℕ, ◌+◌, cond, List, [], ◌∷◌, map, sym, ◌∙◌, ap}
+use Rattle.std.proofs.Common.{◌≡◌, ℕ, ◌+◌, cond, List, map, sym, ◌∙◌, ap}
 use Rattle.table_text.specs.Canonical.{sum_in_parens, product_in_parens}
 use Rattle.table_text.specs.Valid.{greatest, depth_step, depth}
 use Rattle.table_text.specs.declared.expr.Expr.{Expr}

@@ -1,14 +1,13 @@
 -- The tokens of texts that are put together.
-use Rattle.std.proofs.Common.{◌≡◌, ℕ, zero, suc, ◌+◌, ◌-◌, ◌*◌, ◌/◌, ◌%◌, ◌^◌, ◌<◌, ◌≤◌, Bool, true, false, cond, ◌&&◌, List, [], ◌∷◌, ◌++◌, length, drop, take, map, Option, Some, None, refl, sym, ◌∙◌, ap, subst, append_assoc, arith, lt-ltb, length-append, lit<, zero-add}
-use Rattle.std.proofs.lemmas.List.{append-nil}
+use Rattle.std.proofs.Common.{◌≡◌, ℕ, zero, suc, ◌+◌, ◌-◌, ◌*◌, ◌/◌, ◌%◌, ◌^◌, ◌<◌, ◌≤◌, Bool, true, false, cond, ◌&&◌, List, [], ◌∷◌, ◌++◌, length, map, Option, Some, None, refl, sym, ◌∙◌, ap, append_assoc, arith, lt-ltb, length-append, lit<, zero-add}
 use Rattle.std.proofs.lemmas.Bool.Decides.{nat_tests}
 use Rattle.std.proofs.lemmas.List.Sums.{take_while-cons}
 use Rattle.std.proofs.lemmas.Fmt.{decimal_by_steps_wide}
-use Rattle.std.specs.Prelude.{◌==◌, ◌||◌, nat_eq, nat_lt, nat_le, fold, codes}
+use Rattle.std.specs.Prelude.{◌==◌, ◌||◌, nat_eq, nat_le, fold, codes}
 use Rattle.std.specs.List.{list_all, take_while, starts_with}
 use Rattle.std.specs.Fmt.{decimal}
-use Rattle.table_text.specs.Bytes.{is_blank, is_text, is_letter, is_digit, is_hex_digit, is_word_byte, is_mark, digit_value, number_of}
-use Rattle.table_text.specs.Lexing.{Token, name, reserved, number, mark, wrong, Spot, Piece, spot_at, spots_from, spots, word_token, number_token, word_at, decimal_at, number_at, piece_at}
+use Rattle.table_text.specs.Bytes.{is_blank, is_text, is_letter, is_digit, is_word_byte, digit_value, number_of}
+use Rattle.table_text.specs.Lexing.{Token, number, wrong, Spot, Piece, spot_at, spots_from, word_token, number_token, word_at, decimal_at, piece_at}
 use Rattle.table_text.specs.declared.fault.TextKind.TheVariants.{NumberTooWide}
 use Rattle.table_text.proofs.FromTests.{both}
 

@@ -1,5 +1,5 @@
 -- The texts of valid declarations, as trees that they spell.
-use Rattle.std.proofs.Common.{◌≡◌, ℕ, zero, suc, ◌+◌, ◌≤◌, ◌<◌, ◌^◌, Bool, true, false, cond, ◌&&◌, List, [], ◌∷◌, ◌++◌, length, map, Option, Some, None, refl, sym, ◌∙◌, ap, subst, append_assoc, arith, ltb-true, leb-true, lit<, lit≤}
+use Rattle.std.proofs.Common.{◌≡◌, ℕ, zero, suc, ◌≤◌, ◌<◌, ◌^◌, Bool, true, false, cond, ◌&&◌, List, [], ◌∷◌, ◌++◌, map, Option, Some, None, refl, sym, ◌∙◌, ap, subst, append_assoc, arith, ltb-true, leb-true, lit<, lit≤}
 use Rattle.std.proofs.lemmas.Bool.{eqb-true}
 use Rattle.std.proofs.lemmas.List.{append-nil}
 use Rattle.std.proofs.Math.Dec.{eqb-suc-zero}
@@ -8,10 +8,10 @@ use Rattle.std.specs.List.{list_all, flat_map}
 use Rattle.std.specs.Fmt.{decimal}
 use Rattle.table_text.specs.Bytes.{open_paren, close_paren, plus_sign, times_sign, equals_sign, colon, semicolon, comma, open_brace, close_brace}
 use Rattle.table_text.specs.Lexing.{Token, name, reserved, number, mark}
-use Rattle.table_text.specs.Limits.{max_level, max_log_values, max_open, max_declarations}
-use Rattle.table_text.specs.Grammar.{Sum, sum_tokens, TermTree, plain_term, times_term, FormTree, shl_form, shr_form, rol_form, project_form, pack_form, linear_form, ItemTree, one_value, several_values, column_item, virtual_item, zero_item, flush_item, DeclTree, channel_tree, boundary_tree, table_tree, FileTree, side_word, type_word, term_tokens, more_term_tokens, constant_tokens, form_tokens, more_name_tokens, more_number_tokens, selector_tokens, item_tokens, decl_tokens, file_tokens, term_of, constant_of, form_of, item_of, decl_of}
-use Rattle.table_text.specs.Canonical.{joined, tuple, expr_text, term_text, constant_texts, shift_text, form_text, values_text, selector_text, item_text, item_line, decl_text, canonical}
-use Rattle.table_text.specs.Valid.{is_name, is_number, is_some_list, is_valid_expr, depth, is_valid_term, is_valid_form, is_selector, is_valid_item, is_valid_decl, is_valid, declarations}
+use Rattle.table_text.specs.Limits.{max_level, max_log_values, max_open}
+use Rattle.table_text.specs.Grammar.{sum_tokens, TermTree, plain_term, times_term, FormTree, shl_form, shr_form, rol_form, project_form, pack_form, linear_form, ItemTree, one_value, several_values, column_item, virtual_item, zero_item, flush_item, DeclTree, channel_tree, boundary_tree, table_tree, FileTree, side_word, type_word, term_tokens, more_term_tokens, constant_tokens, form_tokens, more_name_tokens, more_number_tokens, selector_tokens, item_tokens, decl_tokens, file_tokens, term_of, constant_of, form_of, item_of, decl_of}
+use Rattle.table_text.specs.Canonical.{joined, tuple, expr_text, term_text, constant_texts, shift_text, form_text, selector_text, item_text, item_line, decl_text, canonical}
+use Rattle.table_text.specs.Valid.{is_name, is_number, is_some_list, is_valid_expr, depth, is_valid_term, is_valid_form, is_selector, is_valid_item, is_valid_decl}
 use Rattle.table_text.specs.declared.expr.Expr.{Expr}
 use Rattle.table_text.specs.declared.print.Place.TheVariants.{Alone}
 use Rattle.table_text.specs.declared.decl.Side.{Side}

@@ -1,5 +1,5 @@
 -- The texts of valid expressions, as trees that they spell.
-use Rattle.std.proofs.Common.{◌≡◌, ℕ, suc, ◌+◌, ◌≤◌, ◌<◌, ◌^◌, Bool, true, false, cond, ◌&&◌, List, [], ◌∷◌, ◌++◌, length, map, refl, sym, ◌∙◌, ap, subst, append_assoc, arith, ltb-true, leb-true, max, zero-add}
+use Rattle.std.proofs.Common.{◌≡◌, ℕ, suc, ◌+◌, ◌≤◌, ◌^◌, Bool, true, false, cond, ◌&&◌, List, [], ◌∷◌, ◌++◌, length, map, refl, sym, ◌∙◌, ap, subst, append_assoc, arith, ltb-true, leb-true, max, zero-add}
 use Rattle.std.proofs.lemmas.List.{append-nil}
 use Rattle.std.specs.Prelude.{codes, not, nat_lt, nat_le}
 use Rattle.std.specs.List.{list_all, flat_map}
@@ -10,20 +10,19 @@ use Rattle.table_text.specs.declared.fault.TextKind.TheVariants.{NameTooLong}
 use Rattle.std.proofs.lemmas.Bool.Decides.{nat_tests}
 use Rattle.table_text.specs.Limits.{max_word}
 use Rattle.table_text.specs.Grammar.{Sum, first_term, plus, Product, first_factor, times, Atom, constant, column, parens, sum_tokens, product_tokens, atom_tokens, terms, factors, atom_expr, sum_of, product_of}
-use Rattle.table_text.specs.Canonical.{joined, in_parens, expr_text}
+use Rattle.table_text.specs.Canonical.{joined, expr_text}
 use Rattle.table_text.specs.Valid.{is_name, is_number, expr_step, is_valid_expr, greatest, depth}
 use Rattle.table_text.specs.declared.expr.Expr.{Expr}
 use Rattle.table_text.specs.declared.expr.Expr.TheVariants as expr
 use Rattle.table_text.specs.declared.expr.Expr.TheOpen.{Expr-F}
 use Rattle.table_text.specs.declared.expr.Expr.TheFolds.{map-Expr, fold-roll-Expr, ind-Expr}
 use Rattle.table_text.specs.declared.expr.Expr.TheViews.{roll-Expr}
-use Rattle.table_text.specs.declared.print.Place.{Place}
 use Rattle.table_text.specs.declared.print.Place.TheVariants.{Alone, InSum, InProduct}
 use Rattle.table_text.proofs.FromTests.{both}
 use Rattle.table_text.proofs.Nesting.{Nests, nests_none, nests_both, nests_more, nests_flat, nests_parens}
 use Rattle.table_text.proofs.Depths.{sum_depth, product_depth}
 use Rattle.table_text.proofs.ExprTexts.{number_text, column_text, sum_text, product_text}
-use Rattle.table_text.proofs.Lexes.{lexed, breaks, Reads, Ends, reads_word, reads_number, ends_then, ends_both, reads_both, reads_end, reads_of, reads_none}
+use Rattle.table_text.proofs.Lexes.{lexed, breaks, Reads, Ends, reads_word, reads_number, ends_then, reads_both, reads_end, reads_of, reads_none}
 
 -- ---- names
 

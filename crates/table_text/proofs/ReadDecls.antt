@@ -1,20 +1,19 @@
 -- The declarations of a text are valid.
-use Rattle.std.proofs.Common.{◌≡◌, ℕ, zero, suc, ◌+◌, ◌≤◌, ◌<◌, ◌^◌, Bool, true, false, cond, ◌&&◌, List, [], ◌∷◌, ◌++◌, length, take, map, Option, Some, None, refl, sym, ◌∙◌, ap, subst, append_assoc, arith, le-leb, length-append}
-use Rattle.std.proofs.lemmas.List.{append-nil, length-map}
+use Rattle.std.proofs.Common.{◌≡◌, ℕ, ◌<◌, ◌^◌, Bool, true, ◌&&◌, List, [], ◌∷◌, ◌++◌, length, take, map, Option, Some, None, refl, sym, ◌∙◌, ap, subst, append_assoc, arith, le-leb, length-append}
+use Rattle.std.proofs.lemmas.List.{length-map}
 use Rattle.std.proofs.Math.Seq.{take-append_seam}
 use Rattle.std.specs.Prelude.{codes, nat_le, slice_get, MatchOption}
 use Rattle.std.specs.List.{list_all, flat_map}
 use Rattle.table_text.specs.Bytes.{open_paren, close_paren, plus_sign, times_sign, equals_sign, colon, semicolon, comma, open_brace, close_brace}
 use Rattle.table_text.specs.Lexing.{Token, name, reserved, number, mark, spots}
 use Rattle.table_text.specs.Limits.{max_level, max_log_values, max_open, max_declarations}
-use Rattle.table_text.specs.Faults.{is_mark_of, open_after, IsTaken, AreTaken, IsTablesText}
+use Rattle.table_text.specs.Faults.{IsTaken, AreTaken, IsTablesText}
 use Rattle.table_text.specs.Grammar.{sum_tokens, TermTree, plain_term, times_term, FormTree, shl_form, shr_form, rol_form, project_form, pack_form, linear_form, ItemTree, one_value, several_values, column_item, virtual_item, zero_item, flush_item, DeclTree, channel_tree, boundary_tree, table_tree, FileTree, side_word, type_word, term_tokens, more_term_tokens, constant_tokens, form_tokens, more_name_tokens, more_number_tokens, selector_tokens, item_tokens, decl_tokens, file_tokens, term_of, constant_of, form_of, item_of, decl_of}
 use Rattle.table_text.specs.Valid.{is_name, is_number, is_valid_term, is_valid_form, is_selector, is_valid_item, is_valid_decl, is_valid, declarations}
-use Rattle.table_text.specs.declared.decl.Side.{Side}
 use Rattle.table_text.specs.declared.decl.Decl.{Decl}
 use Rattle.table_text.proofs.FromTests.{both}
 use Rattle.table_text.proofs.Declared.{few_declarations}
-use Rattle.table_text.proofs.Lexes.{lexed, tokens_of, lexed-spots}
+use Rattle.table_text.proofs.Lexes.{tokens_of, lexed-spots}
 use Rattle.table_text.proofs.Nesting.{Open, open_none}
 use Rattle.table_text.proofs.Proper.{is_proper, Proper, all_split, lexed_proper}
 use Rattle.table_text.proofs.ReadExprs.{Shown, shown_split, Balanced, balanced_both, balanced_flat, balanced_parens, balanced_sum, open_on, read_expr_valid, read_expr_shallow}

@@ -1,5 +1,5 @@
 -- The canonical text of valid declarations is a text of them.
-use Rattle.std.proofs.Common.{◌≡◌, ℕ, zero, suc, ◌+◌, ◌≤◌, ◌<◌, Bool, true, false, cond, List, [], ◌∷◌, ◌++◌, length, take, map, Option, Some, None, refl, sym, ◌∙◌, ap, subst, append_assoc, arith, leb-true}
+use Rattle.std.proofs.Common.{◌≡◌, ℕ, zero, suc, ◌+◌, ◌≤◌, ◌<◌, true, false, cond, List, [], ◌∷◌, ◌++◌, length, take, Some, None, refl, sym, ◌∙◌, ap, subst, append_assoc, arith, leb-true}
 use Rattle.std.proofs.lemmas.List.{append-nil, length-map}
 use Rattle.std.proofs.lemmas.Bool.Decides.{nat_tests}
 use Rattle.std.specs.Prelude.{not, nat_lt, nat_le, position, slice_get, MatchOption}
@@ -7,8 +7,8 @@ use Rattle.std.specs.List.{list_all, prefix_len}
 use Rattle.table_text.specs.Bytes.{is_text, open_paren}
 use Rattle.table_text.specs.Lexing.{Token, spots}
 use Rattle.table_text.specs.Limits.{max_open, max_declarations}
-use Rattle.table_text.specs.Grammar.{FileTree, file_tokens, decl_of}
-use Rattle.table_text.specs.Faults.{own_fault, is_mark_of, is_boundary, begins_declaration, behind_boundary, begun_from, begun_in, open_after, IsTaken, AreTaken, IsTablesText}
+use Rattle.table_text.specs.Grammar.{FileTree, file_tokens}
+use Rattle.table_text.specs.Faults.{own_fault, is_mark_of, is_boundary, begins_declaration, behind_boundary, begun_from, begun_in, IsTaken, AreTaken, IsTablesText}
 use Rattle.table_text.specs.Canonical.{canonical}
 use Rattle.table_text.specs.Valid.{is_valid_decl, declarations, is_valid}
 use Rattle.table_text.specs.declared.decl.Decl.{Decl}

@@ -47,7 +47,7 @@ fn line_len(bytes: &[u8]) -> usize
     bytes.iter().take_while(|byte| !(**byte == b'\n')).count()
 }
 
-fn is_reserved(word: &[u8]) -> bool
+pub(crate) fn is_reserved(word: &[u8]) -> bool
     ensures { result ≡ is_reserved word.now }
 {
     word == b"table".as_slice()

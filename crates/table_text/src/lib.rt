@@ -21,6 +21,7 @@ mod slots;
 mod state;
 pub mod tables;
 mod token;
+mod valid;
 
 pub use decl::{Decl, Decls, Item, Numbers, Side, TableItems, Term, Terms, VirtualForm};
 pub use expr::{Expr, Exprs, Name, Names};

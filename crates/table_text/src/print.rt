@@ -39,13 +39,13 @@ impl Model for Printer {
     ghost view = { λ p. p.text.items };
 }
 
-fn sum_in_parens(place: Place) -> bool
+pub(crate) fn sum_in_parens(place: Place) -> bool
     ensures { result ≡ sum_in_parens place }
 {
     !matches!(place, Place::Alone)
 }
 
-fn product_in_parens(place: Place) -> bool
+pub(crate) fn product_in_parens(place: Place) -> bool
     ensures { result ≡ product_in_parens place }
 {
     matches!(place, Place::InProduct)

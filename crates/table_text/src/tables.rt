@@ -3,6 +3,7 @@
 ghost use Rattle.std.specs.Prelude.{◌≡◌};
 
 use crate::decl::{Decl, Decls};
+use crate::valid::is_valid;
 use std::marker::Model;
 
 /// Valid declarations, in the order of their text.
@@ -21,27 +22,35 @@ impl Model for Tables {
 
     ghost coded = { Prim.hlevel (codes, expr.the_row.coded) };
 
-    ghost use Rattle.std.specs.Prelude.{◌≤◌, IsTrue};
-    ghost use Rattle.table_text.specs.Limits.{max_declarations};
-    ghost use Rattle.table_text.specs.Valid.{LevelsFit, declarations, is_valid};
+    ghost use Rattle.std.specs.Prelude.{IsTrue};
+    ghost use Rattle.table_text.specs.Valid.{is_valid};
 
     ghost view = { λ t. t.decls };
 
-    ghost invariant = { λ t. LevelsFit t.decls × (declarations t.decls ≤ max_declarations) × IsTrue (is_valid t.decls) };
+    ghost invariant = { λ t. IsTrue (is_valid t.decls) };
 }
 
 impl Tables {
-    ghost use Rattle.std.specs.Prelude.{◌≤◌, IsTrue};
+    ghost use Rattle.std.specs.Prelude.{◌≤◌, IsTrue, if◌then◌else◌, Some, None};
     ghost use Rattle.table_text.specs.Limits.{max_declarations};
     ghost use Rattle.table_text.specs.Valid.{LevelsFit, declarations, is_valid};
 
     pub(crate) fn new(decls: Decls) -> Tables
-        requires levels { LevelsFit decls }
-        requires few { declarations decls ≤ max_declarations }
-        requires valid { IsTrue (is_valid decls) }
+        requires { IsTrue (is_valid decls) }
         ensures { result ≡ decls }
     {
         Tables { decls }
+    }
+
+    /// Some where the declarations are valid.
+    pub fn of(decls: Decls) -> Option<Tables>
+        ensures { result ≡ (if is_valid decls then Some decls else None) }
+    {
+        if is_valid(decls.as_slice()) {
+            Some(Tables { decls })
+        } else {
+            None
+        }
     }
 
     /// The declarations.

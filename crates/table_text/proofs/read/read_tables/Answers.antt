@@ -1,8 +1,7 @@
 use Rattle.std.proofs.Common.{◌∙◌, ap, sym, Ok}
 use Rattle.std.proofs.lemmas.Result.{err_from_is_err_and}
 use Rattle.table_text.specs.Reading.{Gives, reading}
-use Rattle.table_text.proofs.Clauses.{levels, refused, reads, refuses}
-use Rattle.table_text.proofs.Declared.{few_declarations}
+use Rattle.table_text.proofs.Clauses.{refused, reads, refuses}
 use Rattle.table_text.proofs.ReadDecls.{read_valid}
 use Rattle.table_text.proofs.Verdicts.{tables-reading}
 use Rattle.table_text.proofs.read.read_tables.Goals as goal
@@ -26,11 +25,7 @@ returns-in_err-decls-clause-refuses c =
     λ fault t memory. refuses c.args.text.now c.from_residual.result fault stopped t memory
 
 pub new-requires : goal.new-requires
-new-requires c = record {
-  levels = levels c.args.text.now c.in_ok-decls.decls c.in_ok-decls.ensures;
-  valid = read_valid c.args.text.now c.in_ok-decls.decls (tables-reading c.args.text.now c.in_ok-decls.decls c.in_ok-decls.ensures);
-  few = few_declarations c.args.text.now c.in_ok-decls.decls (tables-reading c.args.text.now c.in_ok-decls.decls c.in_ok-decls.ensures);
-}
+new-requires c = read_valid c.args.text.now c.in_ok-decls.decls (tables-reading c.args.text.now c.in_ok-decls.decls c.in_ok-decls.ensures)
 
 pub returns-clause-found : goal.returns-clause-found
 returns-clause-found c = tables-reading c.args.text.now c.new.result (c.in_ok-decls.ensures ∙ ap Ok (sym c.new.ensures))
