@@ -1,6 +1,6 @@
 //! Values from outside, and each call once at a small and at a large size.
 
-use crate::{NoMemory, eq_at, eq_table, fold_low, mle_at};
+use crate::{NoMemory, ShiftKind, eq_at, eq_table, fold_low, mle_at, shift_at, step_down_at};
 use tower_field::{B128, Tower};
 
 fn element(n: u64) -> B128 {
@@ -52,4 +52,29 @@ fn twelve_variables(rt: HostRuntime) -> Result<(), NoMemory> {
     assert_eq!(rt; value.number(), 0x60745f361db453e9640810ad57e24056);
     assert_eq!(rt; eq_at(&point, &other).number(), value.number());
     Ok(())
+}
+
+#[test]
+fn steps(rt: HostRuntime) {
+    let point = [element(0x1234), element(7), element(0xabcdef0123456789)];
+    assert_eq!(rt; step_down_at(3, &[element(2), element(4)]).number(), 9);
+    assert_eq!(rt; step_down_at(0, &point).number(), 0);
+    assert_eq!(rt; step_down_at(5, &point).number(), 0x0afb6d19511936fa);
+    assert_eq!(rt; step_down_at(8, &point).number(), 1);
+}
+
+#[test]
+fn shifts(rt: HostRuntime) {
+    let two = [element(2)];
+    let four = [element(4)];
+    let y = [element(0x1234), element(7), element(0xabcdef0123456789)];
+    let x = [element(0xfedcba9876543210), element(0x55), element(2)];
+    for (kind, one, three) in [
+        (ShiftKind::Shl, 10, 0x3453bd8af520d2a7),
+        (ShiftKind::Shr, 12, 0xe92873d2f5a72b9c),
+        (ShiftKind::Rol, 6, 0xe74e4d9c3a413257),
+    ] {
+        assert_eq!(rt; shift_at(kind, 1, &two, &four).number(), one);
+        assert_eq!(rt; shift_at(kind, 5, &y, &x).number(), three);
+    }
 }
