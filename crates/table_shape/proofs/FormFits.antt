@@ -38,11 +38,15 @@ found_from p (x ∷ xs) k c e =
       | false ↦ λ t h. let r = found_from p xs (k + 1) c h in (suc r.0, omega arith, found_later p x xs r.0 r.2)
     ] refl e
 
-pub number_found : (name : List ℕ) (columns : List ColumnShape) (c : ℕ) → number_of_name name columns ≡ Some c → FoundAt (λ (d : ColumnShape). bytes_eq name d.name) columns c
-number_found name columns c e =
-    let r = found_from (λ (d : ColumnShape). bytes_eq name d.name) columns 0 c e in
+-- the place of a first member that passes a test
+pub position_found : {X : Type 0} (p : X → Bool) (xs : List X) (c : ℕ) → position_from p 0 xs ≡ Some c → FoundAt p xs c
+position_found p xs c e =
+    let r = found_from p xs 0 c e in
     let same : r.0 ≡ c = omega arith in
-    subst (FoundAt (λ (d : ColumnShape). bytes_eq name d.name) columns) same r.2
+    subst (FoundAt p xs) same r.2
+
+pub number_found : (name : List ℕ) (columns : List ColumnShape) (c : ℕ) → number_of_name name columns ≡ Some c → FoundAt (λ (d : ColumnShape). bytes_eq name d.name) columns c
+number_found name columns c e = position_found (λ (d : ColumnShape). bytes_eq name d.name) columns c e
 
 pub width_there : (columns : List ColumnShape) (c : ℕ) (column : ColumnShape) → slice_get columns c ≡ Some column → log_values_at columns c ≡ column.log_values
 width_there columns c column e = rw (e, log_values_at) refl
@@ -82,8 +86,12 @@ form_parts before name g f e =
     let found = number_found name before r.0 r.1 in
     (r.0, (found.item, found.at), r.2)
 
-some_and : {X : Type 0} (P : X → Type 0) (o : Option X) (x : X) → o ≡ Some x → P x → IsSomeAnd o P
+pub some_and : {X : Type 0} (P : X → Type 0) (o : Option X) (x : X) → o ≡ Some x → P x → IsSomeAnd o P
 some_and {X = X} P o x e h = subst (λ (p : Option X). IsSomeAnd p P) (sym e) h
+
+pub some_parts : {X : Type 0} (P : X → Type 0) (o : Option X) → IsSomeAnd o P → (x : X) × (o ≡ Some x) × P x
+some_parts P None h = absurd h
+some_parts P (Some x) h = (x, refl, h)
 
 -- a virtual column of this form over the columns before it
 abbrev pub virtual_column : List ℕ → List ColumnShape → ShapeForm → ColumnShape

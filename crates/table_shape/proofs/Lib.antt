@@ -8,9 +8,10 @@ pub mod WidthSteps
 pub mod Differ
 pub mod FitsSteps
 pub mod FormFits
+pub mod FlushSteps
 pub mod VirtualSteps
 pub mod ConstraintSteps
 pub mod Passed
-pub mod TableSteps
+pub mod ShapeSteps
 pub mod MeantForm
 pub mod MeantShape

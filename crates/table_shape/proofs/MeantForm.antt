@@ -1,5 +1,5 @@
 -- A virtual column that is one of those before it passes its checks.
-use Rattle.std.proofs.Common.{eq-eqb, ◌≡◌, ℕ, suc, ◌+◌, ◌^◌, ◌<◌, ◌≤◌, ◌==◌, ◌||◌, ltb, leb, Bool, true, false, List, [], ◌∷◌, length, map, Option, Some, None, Ok, refl, sym, ◌∙◌, ap, subst, arith}
+use Rattle.std.proofs.Common.{eq-eqb, ◌≡◌, ℕ, suc, ◌+◌, ◌^◌, ◌<◌, ◌≤◌, ◌==◌, ◌||◌, ltb, leb, Bool, true, false, List, [], ◌∷◌, length, map, Some, None, Ok, refl, sym, ◌∙◌, ap, subst, arith}
 use Rattle.std.specs.List.{slice_get, list_any, list_all, AllByRecursion, IsDistinct}
 use Rattle.std.specs.Option.{IsSomeAnd}
 use Rattle.std.specs.Str.{bytes_eq}
@@ -19,12 +19,8 @@ use Rattle.table_shape.specs.Checked.{IsChecked}
 use Rattle.table_shape.specs.Shape.{resolved_form, terms_of, repeats, first_fault, block_checks, form_level, form_log_values, with_form, with_resolved_form, with_virtual}
 use Rattle.table_shape.specs.ShapeMeaning.{IsVirtual}
 use Rattle.table_shape.proofs.FitsSteps.{with_columns}
-use Rattle.table_shape.proofs.FormFits.{virtual_column, width_there, level_there, option_parts, terms_are_as_many}
+use Rattle.table_shape.proofs.FormFits.{virtual_column, width_there, level_there, some_parts, option_parts, terms_are_as_many}
 use Rattle.table_shape.proofs.Passed.{IsFree, both_pass}
-
-some_parts : {X : Type 0} (P : X → Type 0) (o : Option X) → IsSomeAnd o P → (x : X) × (o ≡ Some x) × P x
-some_parts P None h = absurd h
-some_parts P (Some x) h = (x, refl, h)
 
 block_pass : (v b o : ℕ) → b ≤ v → o < 2 ^ b → first_fault (block_checks v b o) ≡ None
 block_pass v b o h k = rw (le-ltb v b h, lt-ltb o (2 ^ b) k) refl

@@ -12,4 +12,6 @@ pub mod ShapeGives
 pub mod Names
 pub mod Size
 pub mod Filling
+pub mod Channels
 pub mod Satisfies
+pub mod Counts

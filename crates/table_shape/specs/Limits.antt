@@ -6,6 +6,18 @@ use Rattle.std.specs.Prelude.{ℕ}
 abbrev pub max_tables : ℕ
 max_tables = 64
 
+-- the most channels
+abbrev pub max_channels : ℕ
+max_channels = 64
+
+-- the most boundaries
+abbrev pub max_boundaries : ℕ
+max_boundaries = 4096
+
+-- the most numbers of a channel's tuples
+abbrev pub max_channel_width : ℕ
+max_channel_width = 16
+
 -- the most columns of a table
 abbrev pub max_columns : ℕ
 max_columns = 256
@@ -13,6 +25,10 @@ max_columns = 256
 -- the most constraints of a table
 abbrev pub max_constraints : ℕ
 max_constraints = 256
+
+-- the most flushes of a table
+abbrev pub max_flushes : ℕ
+max_flushes = 64
 
 -- the most terms of a linear column
 abbrev pub max_terms : ℕ

@@ -1,7 +1,12 @@
--- The names of tables, columns and constraints by their numbers.
+-- The names of channels, tables, columns and constraints by their numbers.
 -- Source: docs/LANGUAGE.md, "What a file means".
 use Rattle.std.specs.Prelude.{ℕ, List, Option, option_map, option_and_then, slice_get}
+use Rattle.table_shape.specs.declared.shape.ChannelShape.{ChannelShape}
 use Rattle.table_shape.specs.declared.shape.TableShape.{TableShape}
+
+-- the name of channel c, where there is one
+abbrev pub name_of_channel : List ChannelShape → ℕ → Option (List ℕ)
+name_of_channel channels c = option_map (λ channel. channel.name) (slice_get channels c)
 
 -- the name of table t, where there is one
 abbrev pub name_of_table : List TableShape → ℕ → Option (List ℕ)

@@ -1,11 +1,12 @@
--- The shape of tables: their names resolved, and the first fault of those that have none.
--- Source: docs/LANGUAGE.md, "What a file means"; docs/FORMATS.md, "Limits".
-use Rattle.std.specs.Prelude.{ℕ, ◌+◌, ◌-◌, ◌^◌, ◌==◌, ◌||◌, Bool, false, not, nat_lt, nat_le, if◌then◌else◌, List, [], ◌∷◌, ◌++◌, length, map, Option, Some, None, option_map, Result, Ok, Err}
+-- The shape of declarations: their names resolved, and the first fault of those that have none.
+-- Source: docs/LANGUAGE.md, "What a file means"; docs/FORMATS.md, "Limits"; FIPS 180-4 for SHA-256.
+use Rattle.std.specs.Prelude.{ℕ, ◌+◌, ◌-◌, ◌^◌, ◌==◌, ◌||◌, ◌&&◌, Bool, true, false, not, nat_lt, nat_le, if◌then◌else◌, List, [], ◌∷◌, ◌++◌, length, map, Option, Some, None, option_map, option_and_then, Result, Ok, Err}
 use Rattle.std.specs.List.{list_any, list_all, position_from}
 use Rattle.std.specs.Str.{bytes_eq}
 use Rattle.table_text.specs.declared.expr.Expr.{Expr}
 use Rattle.table_text.specs.declared.expr.Expr.TheOpen.{Expr-F}
 use Rattle.table_text.specs.declared.expr.Expr.TheFolds.{fold-Expr}
+use Rattle.table_text.specs.declared.decl.Side.{Side}
 use Rattle.table_text.specs.declared.decl.Term.{Term}
 use Rattle.table_text.specs.declared.decl.VirtualForm.{VirtualForm}
 use Rattle.table_text.specs.declared.decl.VirtualForm.TheVariants as virtual
@@ -14,7 +15,12 @@ use Rattle.table_text.specs.declared.decl.Item.TheVariants as item
 use Rattle.table_text.specs.declared.decl.Decl.{Decl}
 use Rattle.table_text.specs.declared.decl.Decl.TheVariants as decl
 use Rattle.table_text.specs.Limits.{max_level}
-use Rattle.table_shape.specs.Limits.{max_tables, max_columns, max_constraints, max_terms, max_degree}
+use Rattle.table_text.specs.Canonical.{canonical}
+use Rattle.sha2.specs.Sha256.{sha256}
+use Rattle.table_shape.specs.Limits.{max_channels, max_boundaries, max_channel_width, max_tables, max_columns, max_constraints, max_flushes, max_terms, max_degree}
+use Rattle.table_shape.specs.declared.shape.ChannelShape.{ChannelShape}
+use Rattle.table_shape.specs.declared.shape.BoundaryShape.{BoundaryShape}
+use Rattle.table_shape.specs.declared.shape.FlushShape.{FlushShape}
 use Rattle.table_shape.specs.declared.shape.ShapeTerm.{ShapeTerm}
 use Rattle.table_shape.specs.declared.shape.ShapeForm.{ShapeForm}
 use Rattle.table_shape.specs.declared.shape.ShapeForm.TheVariants as form
@@ -25,10 +31,10 @@ use Rattle.table_shape.specs.declared.shape.ShapeExpr.TheVariants as shaped
 use Rattle.table_shape.specs.declared.shape.TableShape.{TableShape}
 use Rattle.table_shape.specs.declared.fault.ShapeFault.{ShapeFault}
 use Rattle.table_shape.specs.declared.fault.ShapeKind.{ShapeKind}
-use Rattle.table_shape.specs.declared.fault.ShapeKind.TheVariants.{UnknownName, DoubleName, LevelTooHigh, UnequalWidth, BlockTooLong, OffsetOutOfRange, RepeatedTerm, DegreeTooHigh, TooMany, NotBuilt}
+use Rattle.table_shape.specs.declared.fault.ShapeKind.TheVariants.{UnknownName, DoubleName, LevelTooHigh, UnequalWidth, BlockTooLong, OffsetOutOfRange, RepeatedTerm, DegreeTooHigh, TupleWidth, NotOneValue, SelectorNotBit, TooMany}
 use Rattle.table_shape.specs.AndThen.{◌>>=◌}
 use Rattle.table_shape.specs.Value.{degree}
-use Rattle.table_shape.specs.Width.{log_values_at, terms_width, width, has_width}
+use Rattle.table_shape.specs.Width.{width_at, log_values_at, terms_width, width, has_width}
 use Rattle.table_shape.specs.Forms.{level_at, linear_level}
 use Rattle.table_shape.specs.Parts.{ShapeParts}
 
@@ -162,16 +168,86 @@ with_constraint k name expr table =
     else (if list_any (λ z. bytes_eq name z.name) table.constraints then fault k DoubleName
     else with_expr k name table (resolved table.columns expr))
 
-abbrev pub with_item : ℕ → Item → TableShape → Result TableShape ShapeFault
-with_item k (item.Column name level log_values) table = with_column k name level log_values table
-with_item k (item.Zero name expr) table = with_constraint k name expr table
-with_item k (item.Virtual name f) table = with_virtual k name f table
-with_item k (item.Flush side channel columns selector) table = fault k NotBuilt
+-- ---- channels and boundaries
+
+-- the number of the channel with this name
+abbrev pub number_of_channel : List ℕ → List ChannelShape → Option ℕ
+number_of_channel name channels = position_from (λ c. bytes_eq name c.name) 0 channels
+
+-- the channels with one more
+abbrev pub with_channel : ℕ → List ℕ → ℕ → List ChannelShape → Result (List ChannelShape) ShapeFault
+with_channel k name width channels =
+    if nat_le max_channels (length channels) then fault k TooMany
+    else (if list_any (λ c. bytes_eq name c.name) channels then fault k DoubleName
+    else (if width == 0 || nat_lt max_channel_width width then fault k TupleWidth
+    else Ok (channels ++ record { name = name; width = width } ∷ [])))
+
+-- a boundary by its channel, which stands where its name is known
+abbrev pub with_tuple : ℕ → Side → List ℕ → List ChannelShape → List BoundaryShape → Option ℕ → Result (List BoundaryShape) ShapeFault
+with_tuple k side values channels boundaries None = fault k UnknownName
+with_tuple k side values channels boundaries (Some c) =
+    if not (length values == width_at channels c) then fault k TupleWidth
+    else Ok (boundaries ++ record { side = side; channel = c; values = values } ∷ [])
+
+-- the boundaries with one more, after these channels
+abbrev pub with_boundary : ℕ → Side → List ℕ → List ℕ → List ChannelShape → List BoundaryShape → Result (List BoundaryShape) ShapeFault
+with_boundary k side channel values channels boundaries =
+    if nat_le max_boundaries (length boundaries) then fault k TooMany
+    else with_tuple k side values channels boundaries (number_of_channel channel channels)
+
+-- ---- flushes
+
+-- a selector's number, where its name is known or there is no selector
+abbrev pub resolved_selector : List ColumnShape → Option (List ℕ) → Option (Option ℕ)
+resolved_selector columns None = Some None
+resolved_selector columns (Some name) = option_map Some (number_of_name name columns)
+
+-- a flush with numbers in place of names, where each name is known
+abbrev pub resolved_flush : List ChannelShape → List ColumnShape → Side → List ℕ → List (List ℕ) → Option (List ℕ) → Option FlushShape
+resolved_flush channels columns side channel names selector =
+    option_and_then (λ c. option_and_then (λ cs. option_map (λ s. record { side = side; channel = c; columns = cs; selector = s }) (resolved_selector columns selector))
+    (all_some (map (λ name. number_of_name name columns) names))) (number_of_channel channel channels)
+
+-- a selector is a column of one bit per row
+abbrev pub is_selector : List ColumnShape → Option ℕ → Bool
+is_selector columns None = true
+is_selector columns (Some s) = level_at columns s == 0 && log_values_at columns s == 0
+
+-- what may be wrong with a flush over known columns, in order
+abbrev pub flush_checks : List ChannelShape → List ColumnShape → FlushShape → List (Bool × ShapeKind)
+flush_checks channels columns flush =
+    (not (length flush.columns == width_at channels flush.channel), TupleWidth) ∷ (not (list_all (λ c. log_values_at columns c == 0) flush.columns), NotOneValue)
+    ∷ (not (is_selector columns flush.selector), SelectorNotBit) ∷ []
+
+-- the table with this flush, once its checks are through
+abbrev pub with_checked_flush : ℕ → TableShape → FlushShape → Option ShapeKind → Result TableShape ShapeFault
+with_checked_flush k table flush (Some kind) = fault k kind
+with_checked_flush k table flush None = Ok (record table { flushes = table.flushes ++ flush ∷ [] })
+
+-- a flush stands where each name is known
+abbrev pub with_resolved_flush : ℕ → List ChannelShape → TableShape → Option FlushShape → Result TableShape ShapeFault
+with_resolved_flush k channels table None = fault k UnknownName
+with_resolved_flush k channels table (Some flush) = with_checked_flush k table flush (first_fault (flush_checks channels table.columns flush))
+
+-- the table with a flush more
+abbrev pub with_flush : ℕ → List ChannelShape → Side → List ℕ → List (List ℕ) → Option (List ℕ) → TableShape → Result TableShape ShapeFault
+with_flush k channels side channel names selector table =
+    if nat_le max_flushes (length table.flushes) then fault k TooMany
+    else with_resolved_flush k channels table (resolved_flush channels table.columns side channel names selector)
+
+-- ---- items and declarations
+
+-- the table with what an item declares, after these channels
+abbrev pub with_item : ℕ → List ChannelShape → Item → TableShape → Result TableShape ShapeFault
+with_item k channels (item.Column name level log_values) table = with_column k name level log_values table
+with_item k channels (item.Zero name expr) table = with_constraint k name expr table
+with_item k channels (item.Virtual name f) table = with_virtual k name f table
+with_item k channels (item.Flush side channel names selector) table = with_flush k channels side channel names selector table
 
 -- the table with these items, numbered from k on
-abbrev pub with_items : ℕ → List Item → TableShape → Result TableShape ShapeFault
-with_items k [] table = Ok table
-with_items k (i ∷ items) table = with_item k i table >>= with_items (k + 1) items
+abbrev pub with_items : ℕ → List ChannelShape → List Item → TableShape → Result TableShape ShapeFault
+with_items k channels [] table = Ok table
+with_items k channels (i ∷ items) table = with_item k channels i table >>= with_items (k + 1) channels items
 
 abbrev pub table_names : List TableShape → List (List ℕ)
 table_names tables = map (λ t. t.name) tables
@@ -180,16 +256,21 @@ table_names tables = map (λ t. t.name) tables
 abbrev pub begun_table : ℕ → List ℕ → List TableShape → Result TableShape ShapeFault
 begun_table k name tables =
     if nat_le max_tables (length tables) then fault k TooMany
-    else (if list_any (λ t. bytes_eq name t.name) tables then fault k DoubleName else Ok (record { name = name; columns = []; constraints = [] }))
+    else (if list_any (λ t. bytes_eq name t.name) tables then fault k DoubleName else Ok (record { name = name; columns = []; constraints = []; flushes = [] }))
 
--- the tables after these, of the declarations numbered from k on
-abbrev pub tables_of : ℕ → List Decl → List TableShape → Result (List TableShape) ShapeFault
-tables_of k [] tables = Ok tables
-tables_of k (decl.Table name items ∷ decls) tables =
-    begun_table k name tables >>= with_items (k + 1) items >>= (λ table. tables_of (k + 1 + length items) decls (tables ++ table ∷ []))
-tables_of k (decl.Channel name width ∷ decls) tables = fault k NotBuilt
-tables_of k (decl.Boundary side channel values ∷ decls) tables = fault k NotBuilt
+-- the shape with what declarations declare, numbered from k on
+abbrev pub with_decls : ℕ → List Decl → ShapeParts → Result ShapeParts ShapeFault
+with_decls k [] shape = Ok shape
+with_decls k (decl.Channel name width ∷ decls) shape = with_channel k name width shape.channels >>= (λ channels. with_decls (k + 1) decls (record shape { channels = channels }))
+with_decls k (decl.Boundary side channel values ∷ decls) shape =
+    with_boundary k side channel values shape.channels shape.boundaries >>= (λ boundaries. with_decls (k + 1) decls (record shape { boundaries = boundaries }))
+with_decls k (decl.Table name items ∷ decls) shape =
+    begun_table k name shape.tables >>= with_items (k + 1) shape.channels items >>= (λ table. with_decls (k + 1 + length items) decls (record shape { tables = shape.tables ++ table ∷ [] }))
+
+-- a shape with nothing in it but the digest of its text
+abbrev pub begun_shape : List Decl → ShapeParts
+begun_shape decls = record { channels = []; boundaries = []; tables = []; digest = sha256 (canonical decls) }
 
 -- the shape of declarations, or the first fault, the checks of each declaration in their order
 abbrev pub shape_of : List Decl → Result ShapeParts ShapeFault
-shape_of decls = tables_of 0 decls [] >>= (λ tables. Ok (record { tables = tables }))
+shape_of decls = with_decls 0 decls (begun_shape decls)

@@ -1,12 +1,17 @@
--- How many values per row an expression has, and a sum.
+-- How many numbers a channel's tuples have, and how many values per row a column, an expression and a sum.
 -- Source: docs/LANGUAGE.md, "What a file means".
 use Rattle.std.specs.Prelude.{ℕ, Bool, true, false, ◌==◌, List, [], ◌∷◌, Option, Some, None, unwrap_or, slice_get}
 use Rattle.std.specs.List.{list_all}
+use Rattle.table_shape.specs.declared.shape.ChannelShape.{ChannelShape}
 use Rattle.table_shape.specs.declared.shape.ColumnShape.{ColumnShape}
 use Rattle.table_shape.specs.declared.shape.ShapeTerm.{ShapeTerm}
 use Rattle.table_shape.specs.declared.shape.ShapeExpr.{ShapeExpr}
 use Rattle.table_shape.specs.declared.shape.ShapeExpr.TheOpen.{ShapeExpr-F}
 use Rattle.table_shape.specs.declared.shape.ShapeExpr.TheFolds.{fold-ShapeExpr}
+
+-- the width of a channel, and 0 where there is no such channel
+abbrev pub width_at : List ChannelShape → ℕ → ℕ
+width_at channels c = elim (slice_get channels c) [ Some channel ↦ channel.width | None ↦ 0 ]
 
 -- the logarithm of a column's number of values per row, and 0 where there is no such column
 abbrev pub log_values_at : List ColumnShape → ℕ → ℕ

@@ -3,17 +3,63 @@
 ghost use Rattle.std.specs.Prelude.{◌≡◌, IfOk};
 
 use crate::shape::{
-    ColumnKind, ColumnShape, ColumnShapes, ConstraintShape, ConstraintShapes, ShapeExpr,
+    BoundaryShape, BoundaryShapes, ChannelShape, ChannelShapes, ColumnKind, ColumnShape,
+    ColumnShapes, ConstraintShape, ConstraintShapes, FlushShape, FlushShapes, ShapeExpr,
     ShapeExprs, ShapeForm, ShapeTerm, ShapeTerms, TableShape, TableShapes,
 };
 use sqlite_items::Items;
 use std::alloc::{AllocError, Global};
 use table_text::Name;
+use tower_field::{B128, Values};
 
 pub(crate) fn copied_name(alloc: Global, name: &Name) -> Result<Name, AllocError>
     ensures { IfOk result (λ copy. copy ≡ name.now) }
 {
     Items::from_slice(alloc, name.as_slice())
+}
+
+/// A list of the same elements, in memory of its own.
+pub(crate) fn copied_values(alloc: Global, values: &[B128]) -> Result<Values, AllocError>
+    ensures { IfOk result (λ copy. copy ≡ values.now) }
+{
+    let mut copies = Vec::new(alloc);
+    copies.extend_from_slice(values)?;
+    Ok(Values::from_vec(copies))
+}
+
+pub(crate) fn copied_channels(
+    alloc: Global,
+    channels: &[ChannelShape],
+) -> Result<ChannelShapes, AllocError>
+    ensures { IfOk result (λ copy. copy ≡ channels.now) }
+{
+    let mut copies = Items::new(alloc);
+    for channel in channels {
+        let name = copied_name(alloc, &channel.name)?;
+        copies.push(ChannelShape {
+            name,
+            width: channel.width,
+        })?;
+    }
+    Ok(copies)
+}
+
+pub(crate) fn copied_boundaries(
+    alloc: Global,
+    boundaries: &[BoundaryShape],
+) -> Result<BoundaryShapes, AllocError>
+    ensures { IfOk result (λ copy. copy ≡ boundaries.now) }
+{
+    let mut copies = Items::new(alloc);
+    for boundary in boundaries {
+        let values = copied_values(alloc, boundary.values.as_slice())?;
+        copies.push(BoundaryShape {
+            side: boundary.side,
+            channel: boundary.channel,
+            values,
+        })?;
+    }
+    Ok(copies)
 }
 
 fn copied_terms(alloc: Global, terms: &[ShapeTerm]) -> Result<ShapeTerms, AllocError>
@@ -146,6 +192,22 @@ fn copied_constraints(
     Ok(copies)
 }
 
+fn copied_flushes(alloc: Global, flushes: &[FlushShape]) -> Result<FlushShapes, AllocError>
+    ensures { IfOk result (λ copy. copy ≡ flushes.now) }
+{
+    let mut copies = Items::new(alloc);
+    for flush in flushes {
+        let columns = Items::from_slice(alloc, flush.columns.as_slice())?;
+        copies.push(FlushShape {
+            side: flush.side,
+            channel: flush.channel,
+            columns,
+            selector: flush.selector,
+        })?;
+    }
+    Ok(copies)
+}
+
 pub(crate) fn copied_tables(alloc: Global, tables: &[TableShape]) -> Result<TableShapes, AllocError>
     ensures { IfOk result (λ copy. copy ≡ tables.now) }
 {
@@ -154,10 +216,12 @@ pub(crate) fn copied_tables(alloc: Global, tables: &[TableShape]) -> Result<Tabl
         let name = copied_name(alloc, &table.name)?;
         let columns = copied_columns(alloc, table.columns.as_slice())?;
         let constraints = copied_constraints(alloc, table.constraints.as_slice())?;
+        let flushes = copied_flushes(alloc, table.flushes.as_slice())?;
         copies.push(TableShape {
             name,
             columns,
             constraints,
+            flushes,
         })?;
     }
     Ok(copies)

@@ -7,9 +7,10 @@ use std::alloc::AllocError;
 /// What is wrong with a declaration.
 #[derive(Clone, Copy, Debug, PartialEq, Eq)]
 pub enum ShapeKind {
-    /// A column that no earlier declaration of the table has.
+    /// A column that no earlier declaration of the table has, or a channel that none has.
     UnknownName,
-    /// A table, a column of a table or a constraint of a table of a name that an earlier one has.
+    /// A channel, a table, a column of a table or a constraint of a table of a name that an earlier
+    /// one has.
     DoubleName,
     /// Packed values of more than 128 bits.
     LevelTooHigh,
@@ -23,10 +24,16 @@ pub enum ShapeKind {
     RepeatedTerm,
     /// An expression of degree above 8.
     DegreeTooHigh,
-    /// A 65th table, a 257th column or constraint of a table, or a 65th term of a sum.
+    /// A channel of width 0 or above 16, or a tuple of another number of members than its channel's
+    /// width.
+    TupleWidth,
+    /// A column of several values per row in a tuple.
+    NotOneValue,
+    /// A selector of more than one bit per row.
+    SelectorNotBit,
+    /// A 65th channel or table, a 4,097th boundary, a 257th column or constraint of a table, a 65th
+    /// flush of a table, or a 65th term of a sum.
     TooMany,
-    /// A form that isn't read yet.
-    NotBuilt,
 }
 
 /// The first fault of declarations, and the number of its declaration.

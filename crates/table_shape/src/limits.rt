@@ -3,11 +3,23 @@
 /// The most tables.
 pub const MAX_TABLES: usize = 64;
 
+/// The most channels.
+pub const MAX_CHANNELS: usize = 64;
+
+/// The most boundaries.
+pub const MAX_BOUNDARIES: usize = 4096;
+
+/// The most numbers of a channel's tuples.
+pub const MAX_CHANNEL_WIDTH: u32 = 16;
+
 /// The most columns of a table.
 pub const MAX_COLUMNS: usize = 256;
 
 /// The most constraints of a table.
 pub const MAX_CONSTRAINTS: usize = 256;
+
+/// The most flushes of a table.
+pub const MAX_FLUSHES: usize = 64;
 
 /// The most terms of a linear column.
 pub const MAX_TERMS: usize = 64;

@@ -1,8 +1,9 @@
 //! Numbers of a text as elements.
 
-ghost use Rattle.std.specs.Prelude.{◌≡◌};
+ghost use Rattle.std.specs.Prelude.{◌≡◌, IfOk};
 
-use tower_field::{B128, Tower};
+use std::alloc::{AllocError, Global};
+use tower_field::{B128, Tower, Values};
 
 pub(crate) fn element(n: u128) -> B128
     ensures { result ≡ n }
@@ -11,4 +12,15 @@ pub(crate) fn element(n: u128) -> B128
         Some(element) => element,
         None => unreachable!(),
     }
+}
+
+/// These numbers as a list of elements.
+pub(crate) fn elements(alloc: Global, numbers: &[u128]) -> Result<Values, AllocError>
+    ensures { IfOk result (λ values. values ≡ numbers.now) }
+{
+    let mut values = Vec::new(alloc);
+    for n in numbers {
+        values.push(element(*n))?;
+    }
+    Ok(Values::from_vec(values))
 }

@@ -1,6 +1,9 @@
 //! Declarations resolved, each in its turn.
 
-ghost use Rattle.std.specs.Prelude.{◌≡◌, ◌≤◌, ◌+◌, ◌<◌, ◌^◌, [], ◌∷◌, length, IfOk};
+ghost use Rattle.std.specs.Prelude.{◌≡◌, ◌≤◌, ◌+◌, ◌<◌, ◌^◌, [], ◌∷◌, length, IfOk, Ok};
+ghost use Rattle.sha2.specs.Sha256.{sha256};
+ghost use Rattle.table_text.specs.Canonical.{canonical};
+ghost use Rattle.table_shape.specs.Limits.{max_channels};
 ghost use Rattle.table_text.specs.Limits.{max_level, max_log_values};
 ghost use Rattle.table_text.specs.Valid.{ItemLevelsFit};
 ghost use Rattle.table_shape.specs.Fits.{TableFits};
@@ -8,16 +11,19 @@ ghost use Rattle.table_shape.specs.Shape.{begun_table, shape_of, with_column, wi
 ghost use Rattle.table_shape.specs.ShapeGives.{Gives};
 ghost use Rattle.table_shape.specs.ShapeMeaning.{IsShapedWhereMeant};
 
+use crate::channels::{with_boundary, with_channel};
 use crate::constraints::with_constraint;
 use crate::copying::copied_name;
 use crate::fault::{ShapeKind, ShapeStop, refused};
+use crate::flushes::with_flush;
 use crate::forms::with_virtual;
 use crate::limits::{MAX_COLUMNS, MAX_TABLES};
 use crate::lookup::{has_column, has_table};
-use crate::shape::{ColumnKind, ColumnShape, Shape, TableShape};
+use crate::shape::{ChannelShape, ColumnKind, ColumnShape, Shape, TableShape};
+use sha2::{Digest, Sha256};
 use sqlite_items::Items;
 use std::alloc::Global;
-use table_text::{Decl, Item, Name, Tables};
+use table_text::{Decl, Item, Name, Tables, print_tables};
 
 /// The table with a committed column more, declared by `item`.
 fn with_column(
@@ -50,16 +56,18 @@ fn with_column(
     Ok(table)
 }
 
-/// The table with what an item declares, whose number is `number`.
+/// The table with what an item declares, whose number is `number`, after these channels.
 fn with_item(
     alloc: Global,
     number: u32,
     item: &Item,
+    channels: &[ChannelShape],
     table: TableShape,
 ) -> Result<TableShape, ShapeStop>
+    requires few { length channels.now ≤ max_channels }
     requires fits { TableFits table }
     requires levels { ItemLevelsFit (item.now ∷ []) }
-    ensures exact { Gives result (with_item number item.now table) }
+    ensures exact { Gives result (with_item number channels.now item.now table) }
     ensures fits { IfOk result TableFits }
 {
     match item {
@@ -70,26 +78,42 @@ fn with_item(
         } => with_column(alloc, number, name, *level, *log_values, table),
         Item::Virtual { name, form } => with_virtual(alloc, number, name, form, table),
         Item::Zero { name, expr } => with_constraint(alloc, number, name, expr, table),
-        Item::Flush { .. } => refused(number, ShapeKind::NotBuilt),
+        Item::Flush {
+            side,
+            channel,
+            columns,
+            selector,
+        } => with_flush(
+            alloc,
+            number,
+            *side,
+            channel,
+            columns.as_slice(),
+            selector,
+            channels,
+            table,
+        ),
     }
 }
 
-/// The table with these items, the first of which has the number `first`.
+/// The table with these items, the first of which has the number `first`, after these channels.
 fn with_items(
     alloc: Global,
     first: u32,
     items: &[Item],
+    channels: &[ChannelShape],
     mut table: TableShape,
 ) -> Result<TableShape, ShapeStop>
+    requires few_channels { length channels.now ≤ max_channels }
     requires fits { TableFits table }
     requires levels { ItemLevelsFit items.now }
     requires few { first + length items.now < 2 ^ 32 }
-    ensures exact { Gives result (with_items first items.now table) }
+    ensures exact { Gives result (with_items first channels.now items.now table) }
     ensures fits { IfOk result TableFits }
 {
     let mut number = first;
     for item in items {
-        table = with_item(alloc, number, item, table)?;
+        table = with_item(alloc, number, item, channels, table)?;
         number += 1;
     }
     Ok(table)
@@ -115,12 +139,23 @@ fn begun_table(
         name: copied_name(alloc, name)?,
         columns: Items::new(alloc),
         constraints: Items::new(alloc),
+        flushes: Items::new(alloc),
     })
 }
 
-/// What it means that declarations have a shape: each table has the columns and the constraints that
-/// its items declare, over the columns before them by their numbers, names differ, and no limit is
-/// exceeded.
+/// SHA-256 of the canonical text.
+fn digest_of(alloc: Global, tables: &Tables) -> Result<[u8; 32], ShapeStop>
+    ensures { Gives result (Ok (sha256 (canonical tables.now))) }
+{
+    match print_tables(alloc, tables) {
+        Ok(text) => Ok(Sha256::digest(text.as_slice())),
+        Err(_) => Err(ShapeStop::NoMemory),
+    }
+}
+
+/// What it means that declarations have a shape: its channels, boundaries and tables are those that
+/// they declare, over what stands before them by its numbers, names differ, no limit is exceeded,
+/// and the digest is that of the canonical text.
 pub fn shaped_where_meant()
     ensures { IsShapedWhereMeant }
 {}
@@ -129,18 +164,42 @@ pub fn shaped_where_meant()
 pub fn resolve(alloc: Global, tables: &Tables) -> Result<Shape, ShapeStop>
     ensures { Gives result (shape_of tables.now) }
 {
+    let digest = digest_of(alloc, tables)?;
+    let mut channels = Items::new(alloc);
+    let mut boundaries = Items::new(alloc);
     let mut shapes = Items::new(alloc);
     let mut number = 0;
     for decl in tables.decls() {
         match decl {
+            Decl::Channel { name, width } => {
+                channels = with_channel(alloc, number, name, *width, channels)?;
+                number += 1;
+            }
+            Decl::Boundary {
+                side,
+                channel,
+                values,
+            } => {
+                let values = values.as_slice();
+                let before = channels.as_slice();
+                boundaries = with_boundary(
+                    alloc, number, *side, channel, values, before, boundaries,
+                )?;
+                number += 1;
+            }
             Decl::Table { name, items } => {
                 let table = begun_table(alloc, number, name, shapes.as_slice())?;
-                let table = with_items(alloc, number + 1, items.as_slice(), table)?;
+                let table = with_items(
+                    alloc,
+                    number + 1,
+                    items.as_slice(),
+                    channels.as_slice(),
+                    table,
+                )?;
                 shapes.push(table)?;
                 number += 1 + items.len() as u32;
             }
-            _ => return refused(number, ShapeKind::NotBuilt),
         }
     }
-    Ok(Shape::of(shapes))
+    Ok(Shape::of(channels, boundaries, shapes, digest))
 }

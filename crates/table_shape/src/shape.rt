@@ -2,13 +2,32 @@
 
 ghost use Rattle.std.specs.Prelude.{◌≡◌, IfOk, IsSome, Some};
 
-use crate::copying::copied_tables;
+use crate::copying::{copied_boundaries, copied_channels, copied_tables};
 use crate::no_memory::NoMemory;
 use sqlite_items::Items;
 use std::alloc::Global;
 use std::marker::Model;
-use table_text::Name;
-use tower_field::B128;
+use table_text::{Name, Side};
+use tower_field::{B128, Values};
+
+/// A channel of tuples of `width` numbers.
+#[derive(Debug, Drop)]
+pub struct ChannelShape {
+    pub name: Name,
+    pub width: u32,
+}
+
+pub type ChannelShapes = Items<ChannelShape>;
+
+/// A tuple that goes into a channel or comes out of it once.
+#[derive(Debug, Drop)]
+pub struct BoundaryShape {
+    pub side: Side,
+    pub channel: u32,
+    pub values: Values,
+}
+
+pub type BoundaryShapes = Items<BoundaryShape>;
 
 /// A coefficient and the number of the column that it multiplies.
 #[derive(Debug, Drop)]
@@ -98,20 +117,40 @@ pub struct ConstraintShape {
 
 pub type ConstraintShapes = Items<ConstraintShape>;
 
+/// The numbers of columns.
+pub type Numbers32 = Items<u32>;
+
+/// The tuples of these columns that go into a channel or come out of it, one of each row whose
+/// selector is 1, or of each row where there is no selector.
+#[derive(Debug, Drop)]
+pub struct FlushShape {
+    pub side: Side,
+    pub channel: u32,
+    pub columns: Numbers32,
+    pub selector: Option<u32>,
+}
+
+pub type FlushShapes = Items<FlushShape>;
+
 #[derive(Debug, Drop)]
 pub struct TableShape {
     pub name: Name,
     pub columns: ColumnShapes,
     pub constraints: ConstraintShapes,
+    pub flushes: FlushShapes,
 }
 
 pub type TableShapes = Items<TableShape>;
 
-/// Tables within the limits: each constraint and each virtual column over columns of its table that
-/// stand before it, with as many values per row as its kind asks for, and with names that differ.
+/// Channels, boundaries and tables within the limits: each constraint, each virtual column and each
+/// flush over columns of its table that stand before it, with as many values per row as its kind
+/// asks for, each tuple as wide as its channel, and with names that differ.
 #[derive(Debug, Drop)]
 pub struct Shape {
+    channels: ChannelShapes,
+    boundaries: BoundaryShapes,
     tables: TableShapes,
+    digest: [u8; 32],
 }
 
 impl Model for Shape {
@@ -125,21 +164,47 @@ impl Model for Shape {
 
     ghost use Rattle.table_shape.specs.Fits.{ShapeFits};
 
-    ghost view = { λ s. record { tables = s.tables } };
+    ghost view = { λ s. record { channels = s.channels; boundaries = s.boundaries; tables = s.tables; digest = s.digest } };
 
-    ghost invariant = { λ s. ShapeFits (record { tables = s.tables }) };
+    ghost invariant = { λ s. ShapeFits (record { channels = s.channels; boundaries = s.boundaries; tables = s.tables; digest = s.digest }) };
 }
 
 impl Shape {
     ghost use Rattle.table_shape.specs.Fits.{ShapeFits};
-    ghost use Rattle.table_shape.specs.Names.{name_of_table, name_of_column, name_of_constraint};
+    ghost use Rattle.table_shape.specs.Names.{name_of_channel, name_of_table, name_of_column, name_of_constraint};
 
-    /// The shape of these tables.
-    pub(crate) fn of(tables: TableShapes) -> Shape
-        requires { ShapeFits (record { tables = tables }) }
-        ensures { result ≡ record { tables = tables } }
+    /// The shape of these parts.
+    pub(crate) fn of(
+        channels: ChannelShapes,
+        boundaries: BoundaryShapes,
+        tables: TableShapes,
+        digest: [u8; 32],
+    ) -> Shape
+        requires { ShapeFits (record { channels = channels; boundaries = boundaries; tables = tables; digest = digest }) }
+        ensures { result ≡ record { channels = channels; boundaries = boundaries; tables = tables; digest = digest } }
     {
-        Shape { tables }
+        Shape {
+            channels,
+            boundaries,
+            tables,
+            digest,
+        }
+    }
+
+    /// The channels, in the order of their declarations.
+    pub fn channels(&self) -> &[ChannelShape]
+        ensures all { result.now ≡ self.now.channels }
+        ensures fits { ShapeFits self.now }
+    {
+        self.channels.as_slice()
+    }
+
+    /// The boundaries, in the order of their declarations.
+    pub fn boundaries(&self) -> &[BoundaryShape]
+        ensures all { result.now ≡ self.now.boundaries }
+        ensures fits { ShapeFits self.now }
+    {
+        self.boundaries.as_slice()
     }
 
     /// The tables, in the order of their declarations.
@@ -150,13 +215,31 @@ impl Shape {
         self.tables.as_slice()
     }
 
+    /// SHA-256 of the canonical text.
+    pub fn digest(&self) -> [u8; 32]
+        ensures { result ≡ self.now.digest }
+    {
+        self.digest
+    }
+
     /// An equal shape, in memory of its own.
     pub fn copy(&self, alloc: Global) -> Result<Shape, NoMemory>
         ensures { IfOk result (λ copy. copy ≡ self.now) }
     {
         Ok(Shape {
+            channels: copied_channels(alloc, self.channels.as_slice())?,
+            boundaries: copied_boundaries(alloc, self.boundaries.as_slice())?,
             tables: copied_tables(alloc, self.tables.as_slice())?,
+            digest: self.digest,
         })
+    }
+
+    /// The name of a channel.
+    pub fn channel_name(&self, channel: u32) -> &Name
+        requires { IsSome (name_of_channel self.now.channels channel) }
+        ensures { name_of_channel self.now.channels channel ≡ Some result.now }
+    {
+        &self.channels()[channel as usize].name
     }
 
     /// The name of a table.

@@ -9,5 +9,5 @@ invariant-loop-item l = record {
   fits : TableFits l.table;
   levels : ItemLevelsFit (drop l.item-index l.items);
   numbered : l.number ≡ l.first + l.item-index;
-  rest : with_items l.number (drop l.item-index l.items) l.table ≡ with_items l.first l.items l.fn.table;
+  rest : with_items l.number l.channels (drop l.item-index l.items) l.table ≡ with_items l.first l.channels l.items l.fn.table;
 }
