@@ -5,7 +5,7 @@ use sqlite_items::at;
 use std::alloc::{AllocError, Global};
 use std::process::Abort;
 use std::test::Fail;
-use table_text::read_tables;
+use table_text::{Side, read_tables};
 
 const TWO: &[u8] =
     b"table t { column a : b1; column b : b8; zero z : a*b + 1; zero y : b*b*b; } table u { column c : b128; }";
@@ -154,6 +154,65 @@ fn first_faults(rt: HostRuntime) -> Result<(), Fail> {
             2,
             ShapeKind::DegreeTooHigh,
         ),
+        ("channel c : 0;", 0, ShapeKind::TupleWidth),
+        ("channel c : 17;", 0, ShapeKind::TupleWidth),
+        ("channel c : 4294967297;", 0, ShapeKind::TupleWidth),
+        ("channel c : 1; channel c : 0;", 1, ShapeKind::DoubleName),
+        (
+            "boundary push c (1); channel c : 1;",
+            0,
+            ShapeKind::UnknownName,
+        ),
+        (
+            "channel c : 2; boundary pull c (1);",
+            1,
+            ShapeKind::TupleWidth,
+        ),
+        (
+            "channel c : 2; boundary pull c (1, 2, 3);",
+            1,
+            ShapeKind::TupleWidth,
+        ),
+        (
+            "table t { column a : b1; push c (a); } channel c : 1;",
+            2,
+            ShapeKind::UnknownName,
+        ),
+        (
+            "channel c : 1; table t { column a : b1 x 2; push d (a, a); }",
+            3,
+            ShapeKind::UnknownName,
+        ),
+        (
+            "channel c : 1; table t { column a : b1 x 2; push c (a, b); }",
+            3,
+            ShapeKind::UnknownName,
+        ),
+        (
+            "channel c : 1; table t { column a : b1 x 2; push c (a, a) if b; }",
+            3,
+            ShapeKind::UnknownName,
+        ),
+        (
+            "channel c : 1; table t { column a : b1 x 2; push c (a, a) if a; }",
+            3,
+            ShapeKind::TupleWidth,
+        ),
+        (
+            "channel c : 1; table t { column a : b1 x 2; push c (a) if a; }",
+            3,
+            ShapeKind::NotOneValue,
+        ),
+        (
+            "channel c : 1; table t { column a : b1; column b : b2; push c (a) if b; }",
+            4,
+            ShapeKind::SelectorNotBit,
+        ),
+        (
+            "channel c : 1; table t { column a : b1; column b : b1 x 2; pull c (a) if b; }",
+            4,
+            ShapeKind::SelectorNotBit,
+        ),
     ] {
         match resolved(&rt, text.as_bytes()) {
             Ok(_) => panic!(rt; "a shape of {text}"),
@@ -238,5 +297,110 @@ fn limits(rt: HostRuntime) -> Result<(), Fail> {
             }
         }
     }
+    Ok(())
+}
+
+/// A text that repeats a piece between two others, with its number where the piece has a `#`.
+fn repeated(
+    alloc: Global,
+    before: &str,
+    piece: &str,
+    count: u32,
+    after: &str,
+) -> Result<Vec<u8>, AllocError> {
+    let mut text = Vec::from_slice(alloc, before.as_bytes())?;
+    for number in 0..count {
+        for &byte in piece.as_bytes() {
+            if byte == b'#' {
+                text.extend_from_slice(format!(in alloc; "{number}")?.as_bytes())?;
+            } else {
+                text.push(byte)?;
+            }
+        }
+    }
+    text.extend_from_slice(after.as_bytes())?;
+    Ok(text)
+}
+
+#[test]
+fn limits_of_channels(rt: HostRuntime) -> Result<(), Fail> {
+    for (before, piece, after, most, first) in [
+        ("", "channel c# : 1; ", "", 64, 0),
+        ("channel c : 1; ", "boundary push c (#); ", "", 4096, 1),
+        (
+            "channel c : 1; table t { column a : b1; ",
+            "pull c (a); ",
+            "}",
+            64,
+            3,
+        ),
+    ] {
+        let text = repeated(rt.alloc(), before, piece, most, after)?;
+        let _ = resolved(&rt, text.as_slice())?;
+        let text = repeated(rt.alloc(), before, piece, most + 1, after)?;
+        match resolved(&rt, text.as_slice()) {
+            Ok(_) => panic!(rt; "more than {most} times {piece}"),
+            Err(stop) => assert_eq!(rt; stop, fault(first + most, ShapeKind::TooMany)),
+        }
+    }
+    Ok(())
+}
+
+/// Sums of two 32-bit numbers, pulled as they are pushed.
+const SUMS: &[u8] = b"channel sums : 3;
+boundary pull sums (1, 2, 3);
+boundary pull sums (0xffffffff, 1, 0);
+boundary pull sums (0, 0, 0);
+table adder {
+  column a : b1 x 32;
+  column b : b1 x 32;
+  column cout : b1 x 32;
+  virtual cin = shl(cout, 5, 1);
+  virtual sum = linear(a + b + cin);
+  virtual a32 = pack(a, 5);
+  virtual b32 = pack(b, 5);
+  virtual s32 = pack(sum, 5);
+  zero carry : (a + cin) * (b + cin) + cin + cout;
+  push sums (a32, b32, s32);
+}
+";
+
+/// SHA-256 of that text with `4294967295` in place of `0xffffffff`.
+const SUMS_DIGEST: [u8; 32] = [
+    0x92, 0x7e, 0x78, 0xd5, 0xeb, 0xdc, 0xf3, 0x9a, 0xc2, 0x03, 0xd8, 0x90, 0xf1, 0x56, 0x97, 0xd7,
+    0x27, 0x8b, 0xc8, 0xf8, 0x4e, 0x99, 0xf8, 0xe6, 0x2d, 0x43, 0x6a, 0xc2, 0x79, 0xc9, 0x87, 0xef,
+];
+
+#[test]
+fn digest_of_the_canonical_text(rt: HostRuntime) -> Result<(), Fail> {
+    let shape = resolved(&rt, SUMS)?;
+    assert_eq!(rt; shape.digest(), SUMS_DIGEST);
+    assert_eq!(rt; shape.copy(rt.alloc())?.digest(), SUMS_DIGEST);
+    Ok(())
+}
+
+#[test]
+fn channels_boundaries_and_flushes(rt: HostRuntime) -> Result<(), Fail> {
+    let text = b"channel t : 2; channel u : 1; boundary pull u (7);
+        table t { column a : b1; column b : b64; pull t (b, a) if a; push t (b, b); }";
+    let shape = resolved(&rt, text)?;
+    let [t, u] = shape.channels() else {
+        panic!(rt; "not two channels")
+    };
+    assert_eq!(rt; (t.width, u.width), (2, 1));
+    let [boundary] = shape.boundaries() else {
+        panic!(rt; "not one boundary")
+    };
+    assert_eq!(rt; (boundary.side, boundary.channel), (Side::Pull, 1));
+    let [table] = shape.tables() else {
+        panic!(rt; "not one table")
+    };
+    let [some, each] = table.flushes.as_slice() else {
+        panic!(rt; "not two flushes")
+    };
+    assert_eq!(rt; (some.channel, some.selector), (0, Some(0)));
+    assert_eq!(rt; some.columns.as_slice(), [1, 0].as_slice());
+    assert_eq!(rt; (each.channel, each.selector), (0, None));
+    assert_eq!(rt; each.columns.as_slice(), [1, 1].as_slice());
     Ok(())
 }
