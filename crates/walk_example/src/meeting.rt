@@ -1,12 +1,13 @@
 //! A walk and its prover, side by side.
 
-ghost use Rattle.std.specs.Prelude.{◌≡◌, ◌<◌, ◌^◌, true, IfOk, None, Some};
+ghost use Rattle.std.specs.Prelude.{◌≡◌, ◌+◌, ◌<◌, ◌^◌, ◌∷◌, length, is_none, true, false, IfOk, Some};
 ghost use Rattle.sumcheck.specs.Machine.{first_entry, Filling};
+ghost use Rattle.walk_example.specs.Meeting.{IsTrueOf};
 
 use sumcheck::{Entry, Honest, NoMemory, Steps};
 use tower_field::{B128, Tower};
 
-/// The entry that is due, on both sides: whether it passes.
+/// The entry that is due, on both sides: whether it passes. That of a true state does.
 pub fn step<P: Honest>(
     walk: &mut P::Walk,
     prover: &mut P,
@@ -15,7 +16,10 @@ pub fn step<P: Honest>(
     values: &mut Vec<B128>,
 ) -> Result<bool, NoMemory>
     requires { (F : Filling) × (_ : P.follows prover.old F walk.old) × (first_entry (P.Walk.machine.entries walk.old) ≡ Some entry) }
-    ensures { IfOk result (λ passed. passed ≡ true → (F : Filling) → P.follows prover.old F walk.old → P.follows prover.new F walk.new) }
+    ensures follows { IfOk result (λ passed. passed ≡ true → (F : Filling) → P.follows prover.old F walk.old → P.follows prover.new F walk.new) }
+    ensures passed { IfOk result (λ passed. passed ≡ true → P.Walk.machine.entries walk.old ≡ entry ∷ P.Walk.machine.entries walk.new) }
+    ensures refused { IfOk result (λ passed. passed ≡ false → walk.new ≡ walk.old) }
+    ensures true_passes { IfOk result (λ passed. (F : Filling) → P.follows prover.old F walk.old → IsTrueOf P.Walk.machine F walk.old → (passed ≡ true) × IsTrueOf P.Walk.machine F walk.new) }
 {
     P::Walk::is_lawful();
     match entry {
@@ -36,7 +40,7 @@ pub fn step<P: Honest>(
 }
 
 /// Entry by entry on both sides, at most so many, with the elements 7, 8, 9, .. as draws: how many
-/// pass, and whether none is due after them.
+/// pass, and whether none is due after them. A true state passes to the end, or as far as that.
 pub fn meet<P: Honest>(
     walk: &mut P::Walk,
     prover: &mut P,
@@ -44,7 +48,9 @@ pub fn meet<P: Honest>(
     values: &mut Vec<B128>,
 ) -> Result<(u32, bool), NoMemory>
     requires { (F : Filling) × P.follows prover.old F walk.old }
-    ensures { IfOk result (λ met. met.1 ≡ true → first_entry (P.Walk.machine.entries walk.new) ≡ None) }
+    ensures count { IfOk result (λ met. length (P.Walk.machine.entries walk.old) ≡ met.0 + length (P.Walk.machine.entries walk.new)) }
+    ensures ends { IfOk result (λ met. met.1 ≡ is_none (first_entry (P.Walk.machine.entries walk.new))) }
+    ensures true_passes { IfOk result (λ met. (F : Filling) → P.follows prover.old F walk.old → IsTrueOf P.Walk.machine F walk.old → met.1 ≡ false → met.0 ≡ most) }
 {
     for k in 0..most {
         let Some(entry) = walk.due() else {
@@ -55,5 +61,5 @@ pub fn meet<P: Honest>(
             return Ok((k, false));
         }
     }
-    Ok((most, false))
+    Ok((most, walk.due().is_none()))
 }
