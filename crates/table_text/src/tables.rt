@@ -63,3 +63,6 @@ impl Tables {
         self.decls.as_slice()
     }
 }
+
+#[cfg(test)]
+mod tests;
