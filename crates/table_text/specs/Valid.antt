@@ -1,5 +1,5 @@
--- What each list of declarations keeps.
--- Source: docs/LANGUAGE.md, "Faults" and "What a file means".
+-- Which lists of declarations are valid, and what such a list keeps.
+-- Source: docs/LANGUAGE.md, "The canonical text" and "Faults".
 use Rattle.std.specs.Prelude.{ℕ, ◌+◌, ◌≤◌, ◌^◌, Bool, true, false, not, ◌&&◌, nat_le, nat_lt, max, if◌then◌else◌, List, [], ◌∷◌, length, map, Option, Some, None}
 use Rattle.std.specs.List.{list_all}
 use Rattle.table_text.specs.Bytes.{is_letter, is_word_byte}
