@@ -1,6 +1,4 @@
 use super::*;
-use crate::decl::{Decl, Item};
-use crate::expr::Expr;
 use std::alloc::AllocError;
 use std::process::Abort;
 use std::test::Fail;
@@ -10,81 +8,19 @@ fn answer(rt: &(impl Abort + AllocGlobal), text: &[u8]) -> Result<Tables, TextSt
     read_tables(rt.alloc(), text)
 }
 
-fn fault(place: u32, kind: TextKind) -> TextStop {
-    TextStop::Fault(TextFault { place, kind })
+/// What a text is refused for, where it is.
+fn stop(rt: &(impl Abort + AllocGlobal), text: &[u8]) -> Option<TextStop> {
+    answer(rt, text).err()
 }
 
-/// A table with one constraint, whose expression stands at byte 18.
-fn constraint(alloc: Global, front: &[u8], back: &[u8]) -> Result<Vec<u8>, AllocError> {
-    let mut text = Vec::from_slice(alloc, b"table t { zero z: ")?;
-    text.extend_from_slice(front)?;
-    text.extend_from_slice(back)?;
-    text.extend_from_slice(b"; }")?;
-    Ok(text)
+/// The declarations of a text, as they are printed for debugging.
+fn shown(rt: &(impl Abort + AllocGlobal), text: &[u8]) -> Result<String, Fail> {
+    let tables = answer(rt, text)?;
+    Ok(format!(in rt.alloc(); "{tables:?}")?)
 }
 
-#[test]
-fn numbers_of_values(rt: HostRuntime) -> Result<(), Fail> {
-    for (text, own, expected) in [
-        ("table t { column a : b1 x 1; }", 0, 0),
-        ("table t { column a : b2 x 2; }", 1, 1),
-        ("table t { column a : b4 x 0x20; }", 2, 5),
-        ("table t { column a : b8 x 032; }", 3, 5),
-        ("table t { column a : b128 x 128; }", 7, 7),
-    ] {
-        let tables = answer(&rt, text.as_bytes())?;
-        let [Decl::Table { items, .. }] = tables.decls() else {
-            panic!(rt; "not one table")
-        };
-        let [
-            Item::Column {
-                level,
-                log_values,
-                ..
-            },
-        ] = items.as_slice()
-        else {
-            panic!(rt; "not one column")
-        };
-        assert_eq!(rt; (*level, *log_values), (own, expected), "at {text}");
-    }
-    Ok(())
-}
-
-#[test]
-fn declarations(rt: HostRuntime) -> Result<(), Fail> {
-    let tables = answer(&rt, b"table t { column a : b1; zero z : a*a + a; }")?;
-    let [Decl::Table { name, items }] = tables.decls() else {
-        panic!(rt; "not one table")
-    };
-    assert_eq!(rt; name.as_slice(), b"t".as_slice());
-    let [
-        Item::Column {
-            name,
-            level,
-            log_values,
-        },
-        Item::Zero { name: zero, expr },
-    ] = items.as_slice()
-    else {
-        panic!(rt; "not a column and a constraint")
-    };
-    assert_eq!(rt; name.as_slice(), b"a".as_slice());
-    assert_eq!(rt; (*level, *log_values), (0, 0));
-    assert_eq!(rt; zero.as_slice(), b"z".as_slice());
-    let Expr::Sum(terms) = expr else {
-        panic!(rt; "not a sum")
-    };
-    let [Expr::Product(factors), Expr::Column(last)] = terms.as_slice() else {
-        panic!(rt; "not a product and a column")
-    };
-    assert_eq!(rt; last.as_slice(), b"a".as_slice());
-    let [Expr::Column(first), Expr::Column(second)] = factors.as_slice() else {
-        panic!(rt; "not two columns")
-    };
-    assert_eq!(rt; first.as_slice(), b"a".as_slice());
-    assert_eq!(rt; second.as_slice(), b"a".as_slice());
-    Ok(())
+fn fault(place: u32, kind: TextKind) -> Option<TextStop> {
+    Some(TextStop::Fault(TextFault { place, kind }))
 }
 
 static FAULTS: [(&str, u32, TextKind); 95] = [
@@ -305,15 +241,20 @@ static FAULTS: [(&str, u32, TextKind); 95] = [
 #[test]
 fn faults(rt: HostRuntime) -> Result<(), Fail> {
     for &(text, place, kind) in &FAULTS {
-        match answer(&rt, text.as_bytes()) {
-            Ok(_) => panic!(rt; "read: {text}"),
-            Err(stop) => assert_eq!(rt; stop, fault(place, kind), "{text}"),
-        }
+        assert_eq!(rt; stop(&rt, text.as_bytes()), fault(place, kind), "{text}");
     }
     Ok(())
 }
 
-static READINGS: [(&str, &str); 11] = [
+static READINGS: [(&str, &str); 13] = [
+    (
+        "table t { column a : b1; zero z : a*a + a; }",
+        "Tables { decls: Items { items: [Table { name: Items { items: [116] }, items: Items { items: [Column { name: Items { items: [97] }, level: 0, log_values: 0 }, Zero { name: Items { items: [122] }, expr: Sum(Items { items: [Product(Items { items: [Column(Items { items: [97] }), Column(Items { items: [97] })] }), Column(Items { items: [97] })] }) }] } }] } }",
+    ),
+    (
+        "table t { column a : b1 x 1; column b : b2 x 2; column c : b4 x 0x20; column d : b8 x 032; column e : b128 x 128; }",
+        "Tables { decls: Items { items: [Table { name: Items { items: [116] }, items: Items { items: [Column { name: Items { items: [97] }, level: 0, log_values: 0 }, Column { name: Items { items: [98] }, level: 1, log_values: 1 }, Column { name: Items { items: [99] }, level: 2, log_values: 5 }, Column { name: Items { items: [100] }, level: 3, log_values: 5 }, Column { name: Items { items: [101] }, level: 7, log_values: 7 }] } }] } }",
+    ),
     (
         "channel sums : 3;",
         "Tables { decls: Items { items: [Channel { name: Items { items: [115, 117, 109, 115] }, width: 3 }] } }",
@@ -355,9 +296,7 @@ static READINGS: [(&str, &str); 11] = [
 #[test]
 fn readings(rt: HostRuntime) -> Result<(), Fail> {
     for &(text, want) in &READINGS {
-        let tables = answer(&rt, text.as_bytes())?;
-        let shown = format!(in rt.alloc(); "{tables:?}")?;
-        assert_eq!(rt; shown.as_str(), want, "{text}");
+        assert_eq!(rt; shown(&rt, text.as_bytes())?.as_str(), want, "{text}");
     }
     Ok(())
 }
@@ -408,19 +347,15 @@ static FORMS: [(&str, &str); 10] = [
 #[test]
 fn forms(rt: HostRuntime) -> Result<(), Fail> {
     for &(text, want) in &FORMS {
-        let mut file = Vec::from_slice(rt.alloc(), b"table t { virtual v = ")?;
-        file.extend_from_slice(text.as_bytes())?;
-        file.extend_from_slice(b"; }")?;
-        let tables = answer(&rt, &file)?;
-        let [Decl::Table { name: _, items }] = tables.decls() else {
-            panic!(rt; "not one table")
-        };
-        let [Item::Virtual { name, form }] = items.as_slice() else {
-            panic!(rt; "not one virtual column")
-        };
-        assert_eq!(rt; name.as_slice(), b"v".as_slice());
-        let shown = format!(in rt.alloc(); "{form:?}")?;
-        assert_eq!(rt; shown.as_str(), want, "{text}");
+        let file = format!(in rt.alloc(); "table t {{ virtual v = {text}; }}")?;
+        let want = format!(in rt.alloc();
+            "Tables {{ decls: Items {{ items: [Table {{ name: Items {{ items: [116] }}, items: Items {{ items: [Virtual {{ name: Items {{ items: [118] }}, form: {want} }}] }} }}] }} }}"
+        )?;
+        assert_eq!(rt;
+            shown(&rt, file.as_bytes())?.as_str(),
+            want.as_str(),
+            "{text}"
+        );
     }
     Ok(())
 }
@@ -479,86 +414,101 @@ static EXPRESSIONS: [(&str, &str); 14] = [
 #[test]
 fn expressions(rt: HostRuntime) -> Result<(), Fail> {
     for &(text, want) in &EXPRESSIONS {
-        let tables = answer(&rt, &constraint(rt.alloc(), text.as_bytes(), b"")?)?;
-        let [Decl::Table { name: _, items }] = tables.decls() else {
-            panic!(rt; "not one table")
-        };
-        let [Item::Zero { name: _, expr }] = items.as_slice() else {
-            panic!(rt; "not one constraint")
-        };
-        let shown = format!(in rt.alloc(); "{expr:?}")?;
-        assert_eq!(rt; shown.as_str(), want, "{text}");
+        let file = format!(in rt.alloc(); "table t {{ zero z : {text}; }}")?;
+        let want = format!(in rt.alloc();
+            "Tables {{ decls: Items {{ items: [Table {{ name: Items {{ items: [116] }}, items: Items {{ items: [Zero {{ name: Items {{ items: [122] }}, expr: {want} }}] }} }}] }} }}"
+        )?;
+        assert_eq!(rt;
+            shown(&rt, file.as_bytes())?.as_str(),
+            want.as_str(),
+            "{text}"
+        );
     }
     Ok(())
 }
 
 #[test]
-fn limits(rt: HostRuntime) -> Result<(), Fail> {
-    // Names of 64 bytes.
-    let name = b"a234567890123456789012345678901234567890123456789012345678901234";
-    assert_eq!(rt; name.len(), 64);
-    assert!(rt; answer(&rt, &constraint(rt.alloc(), name, b"")?).is_ok());
+fn name_of_64_bytes(rt: HostRuntime) -> Result<(), Fail> {
+    let text = b"table a234567890123456789012345678901234567890123456789012345678901234{}";
+    assert_eq!(rt; text.len(), 6 + 64 + 2);
+    assert_eq!(rt; stop(&rt, text), None);
+    Ok(())
+}
 
-    // 32 and 33 open parentheses, also where others are closed.
-    let open = [b'('; 33];
-    let close = [b')'; 33];
-    for (front, count, kind) in [
+/// A constraint whose expression, at byte 18, has so many parentheses behind its front.
+fn nested(alloc: Global, front: &str, count: usize) -> Result<Vec<u8>, AllocError> {
+    let mut text = Vec::from_slice(alloc, b"table t { zero z: ")?;
+    text.extend_from_slice(front.as_bytes())?;
+    for _ in 0..count {
+        text.push(b'(')?;
+    }
+    text.push(b'1')?;
+    for _ in 0..count {
+        text.push(b')')?;
+    }
+    text.extend_from_slice(b"; }")?;
+    Ok(text)
+}
+
+#[test]
+fn open_parentheses(rt: HostRuntime) -> Result<(), Fail> {
+    for (front, count, want) in [
         ("", 32, None),
-        ("", 33, Some(TextKind::TooDeep)),
+        ("", 33, fault(50, TextKind::TooDeep)),
         ("(1)+", 32, None),
-        ("(1)+", 33, Some(TextKind::TooDeep)),
+        ("(1)+", 33, fault(54, TextKind::TooDeep)),
     ] {
-        let mut expr = Vec::from_slice(rt.alloc(), front.as_bytes())?;
-        expr.extend_from_slice(&open[..count])?;
-        expr.push(b'1')?;
-        expr.extend_from_slice(&close[..count])?;
-        match (answer(&rt, &constraint(rt.alloc(), &expr, b"")?), kind) {
-            (Ok(_), None) => {}
-            (Err(stop), Some(kind)) => {
-                let place = 18 + front.len() as u32 + 32;
-                assert_eq!(rt; stop, fault(place, kind));
-            }
-            _ => panic!(rt; "{count} open behind {front}"),
-        }
+        let text = nested(rt.alloc(), front, count)?;
+        assert_eq!(rt; stop(&rt, &text), want, "{count} behind {front}");
     }
     // An unfinished text of them.
     let text = b"table t { zero z: (((((((((((((((((((((((((((((((((";
-    assert!(rt; answer(&rt, text).is_err_and(|stop| stop == fault(50, TextKind::TooDeep)));
+    assert_eq!(rt; stop(&rt, text), fault(50, TextKind::TooDeep));
+    Ok(())
+}
 
-    // 65,535 declarations, and one more.
-    let mut text = Vec::from_slice(rt.alloc(), b"table t{")?;
+/// 65,534 times a piece of text, behind its front and before its back.
+fn repeated(alloc: Global, front: &str, piece: &str, back: &str) -> Result<Vec<u8>, AllocError> {
+    let mut text = Vec::from_slice(alloc, front.as_bytes())?;
     for _ in 0..65534 {
-        text.extend_from_slice(b"column a:b1;")?;
+        text.extend_from_slice(piece.as_bytes())?;
     }
-    text.push(b'}')?;
-    assert!(rt; answer(&rt, &text).is_ok());
-    text.extend_from_slice(b"table")?;
-    let Err(stop) = answer(&rt, &text) else {
-        panic!(rt; "65,536 declarations")
-    };
-    assert_eq!(rt; stop, fault(786417, TextKind::TooMany));
+    text.extend_from_slice(back.as_bytes())?;
+    Ok(text)
+}
 
-    // A boundary is one declaration, and so is a flush.
-    let mut text = Vec::new(rt.alloc());
-    for _ in 0..65534 {
-        text.extend_from_slice(b"boundary push c(1);")?;
+#[test]
+fn many_declarations(rt: HostRuntime) -> Result<(), Fail> {
+    for (front, piece, back, want) in [
+        ("table t{", "column a:b1;", "}", None),
+        (
+            "table t{",
+            "column a:b1;",
+            "}table",
+            fault(786417, TextKind::TooMany),
+        ),
+        // A boundary is one declaration, and so is a flush.
+        (
+            "",
+            "boundary push c(1);",
+            "table t{pull",
+            fault(65534 * 19 + 8, TextKind::TooMany),
+        ),
+    ] {
+        let text = repeated(rt.alloc(), front, piece, back)?;
+        assert_eq!(rt; stop(&rt, &text), want, "{front}{piece}{back}");
     }
-    text.extend_from_slice(b"table t{pull")?;
-    let Err(stop) = answer(&rt, &text) else {
-        panic!(rt; "65,536 declarations")
-    };
-    assert_eq!(rt; stop, fault(65534 * 19 + 8, TextKind::TooMany));
     Ok(())
 }
 
 #[test]
 fn long_text(rt: HostRuntime) -> Result<(), Fail> {
-    let mut expr = Vec::new(rt.alloc());
+    let mut text = Vec::from_slice(rt.alloc(), b"table t { zero z: ")?;
     for _ in 0..262000 {
-        expr.extend_from_slice(b"a*1+")?;
+        text.extend_from_slice(b"a*1+")?;
     }
-    let text = constraint(rt.alloc(), &expr, b"1")?;
+    text.extend_from_slice(b"1; }")?;
     assert!(rt; 1048000 < text.len() && text.len() <= 1048576);
-    assert!(rt; answer(&rt, &text).is_ok());
+    assert_eq!(rt; stop(&rt, &text), None);
     Ok(())
 }

@@ -155,47 +155,39 @@ fn form(alloc: Global, part: &Part) -> Result<VirtualForm, AllocError> {
     })
 }
 
+fn zero(alloc: Global, expr: Expr) -> Result<Item, AllocError> {
+    Ok(Item::Zero {
+        name: name(alloc, "a")?,
+        expr,
+    })
+}
+
+fn flush(alloc: Global, count: usize, selector: Option<Name>) -> Result<Item, AllocError> {
+    Ok(Item::Flush {
+        side: Side::Pull,
+        channel: name(alloc, "c")?,
+        columns: columns(alloc, count)?,
+        selector,
+    })
+}
+
 fn item(alloc: Global, part: &Part) -> Result<Item, AllocError> {
-    let name = name(alloc, "a")?;
     match part {
         Part::Column(level, log_values) => Ok(Item::Column {
-            name,
+            name: name(alloc, "a")?,
             level: *level,
             log_values: *log_values,
         }),
-        Part::Sum(count) => Ok(Item::Zero {
-            name,
-            expr: Expr::Sum(parts(alloc, *count)?),
-        }),
-        Part::Product(count) => Ok(Item::Zero {
-            name,
-            expr: Expr::Product(parts(alloc, *count)?),
-        }),
-        Part::Nested(count) => Ok(Item::Zero {
-            name,
-            expr: nested(alloc, *count)?,
-        }),
-        Part::Flush(count) => Ok(Item::Flush {
-            side: Side::Push,
-            channel: name,
-            columns: columns(alloc, *count)?,
-            selector: None,
-        }),
-        Part::Selected(selector) => Ok(selected(alloc, name, selector)?),
+        Part::Sum(count) => zero(alloc, Expr::Sum(parts(alloc, *count)?)),
+        Part::Product(count) => zero(alloc, Expr::Product(parts(alloc, *count)?)),
+        Part::Nested(count) => zero(alloc, nested(alloc, *count)?),
+        Part::Flush(count) => flush(alloc, *count, None),
+        Part::Selected(selector) => flush(alloc, 1, Some(name(alloc, selector)?)),
         _ => Ok(Item::Virtual {
-            name,
+            name: name(alloc, "a")?,
             form: form(alloc, part)?,
         }),
     }
-}
-
-fn selected(alloc: Global, channel: Name, selector: &str) -> Result<Item, AllocError> {
-    Ok(Item::Flush {
-        side: Side::Pull,
-        channel,
-        columns: columns(alloc, 1)?,
-        selector: Some(name(alloc, selector)?),
-    })
 }
 
 fn table(alloc: Global, count: usize, part: &Part) -> Result<Decl, AllocError> {
@@ -228,20 +220,28 @@ fn channel(alloc: Global, word: &str) -> Result<Decl, AllocError> {
     })
 }
 
-fn decls(alloc: Global, given: &Given) -> Result<Decls, AllocError> {
+fn channels(alloc: Global, count: usize) -> Result<Decls, AllocError> {
     let mut decls = Decls::new(alloc);
-    match given {
-        Given::Named(word) => decls.push(channel(alloc, word)?)?,
-        Given::Values(count) => decls.push(boundary(alloc, *count)?)?,
-        Given::Channels(count) => {
-            for _ in 0..*count {
-                decls.push(channel(alloc, "c")?)?;
-            }
-        }
-        Given::Items(count) => decls.push(table(alloc, *count, &Part::Column(0, 0))?)?,
-        Given::One(part) => decls.push(table(alloc, 1, part)?)?,
+    for _ in 0..count {
+        decls.push(channel(alloc, "c")?)?;
     }
     Ok(decls)
+}
+
+fn one(alloc: Global, decl: Decl) -> Result<Decls, AllocError> {
+    let mut decls = Decls::new(alloc);
+    decls.push(decl)?;
+    Ok(decls)
+}
+
+fn decls(alloc: Global, given: &Given) -> Result<Decls, AllocError> {
+    match given {
+        Given::Named(word) => one(alloc, channel(alloc, word)?),
+        Given::Values(count) => one(alloc, boundary(alloc, *count)?),
+        Given::Channels(count) => channels(alloc, *count),
+        Given::Items(count) => one(alloc, table(alloc, *count, &Part::Column(0, 0))?),
+        Given::One(part) => one(alloc, table(alloc, 1, part)?),
+    }
 }
 
 #[test]
