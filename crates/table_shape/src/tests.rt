@@ -10,6 +10,14 @@ use table_text::{Side, read_tables};
 const TWO: &[u8] =
     b"table t { column a : b1; column b : b8; zero z : a*b + 1; zero y : b*b*b; } table u { column c : b128; }";
 
+/// Whether a channel of this number has this name.
+fn is_channel(shape: &Shape, channel: u32, name: &[u8]) -> bool {
+    let Some(_) = at(shape.channels(), channel as usize) else {
+        return false;
+    };
+    shape.channel_name(channel).as_slice() == name
+}
+
 /// Whether a table of this number has this name.
 fn is_table(shape: &Shape, table: u32, name: &[u8]) -> bool {
     let Some(_) = at(shape.tables(), table as usize) else {
@@ -388,6 +396,7 @@ fn channels_boundaries_and_flushes(rt: HostRuntime) -> Result<(), Fail> {
         panic!(rt; "not two channels")
     };
     assert_eq!(rt; (t.width, u.width), (2, 1));
+    assert!(rt; is_channel(&shape, 0, b"t") && is_channel(&shape, 1, b"u"));
     let [boundary] = shape.boundaries() else {
         panic!(rt; "not one boundary")
     };
