@@ -9,9 +9,9 @@ use std::marker::Model;
 use sumcheck::ColumnClaim;
 use tower_field::{B128, Values};
 
-/// Memory for points.
+/// Memory for points. A contract sees for how many it is, and how many coordinates each may have.
 #[derive(Drop)]
-struct Points {
+pub struct Points {
     vars: u32,
     points: Vec<Vec<B128>>,
 }
@@ -30,7 +30,7 @@ impl Model for Points {
 
 impl Points {
     /// Memory for that many points of at most `vars` coordinates.
-    fn begin(alloc: Global, vars: u32, claims: u32) -> Result<Points, NoMemory>
+    pub fn begin(alloc: Global, vars: u32, claims: u32) -> Result<Points, NoMemory>
         ensures { IfOk result (λ points. points ≡ record { vars = vars; count = claims }) }
     {
         let mut points = Vec::with_capacity(alloc, claims as usize)?;
@@ -51,7 +51,7 @@ impl Points {
     }
 
     /// A copy of a claim, its point in this memory.
-    fn copy(&mut self, claim: &ColumnClaim) -> ColumnClaim
+    pub fn copy(&mut self, claim: &ColumnClaim) -> ColumnClaim
         requires more { 0 < self.old.count }
         requires short { length claim.now.point ≤ self.old.vars }
         ensures copy { result ≡ claim.now }
