@@ -5,3 +5,4 @@ pub mod ProjectLaws
 pub mod LinearLaws
 pub mod PackLaws
 pub mod VirtualSteps
+pub mod ShiftLaws

@@ -6,3 +6,4 @@ pub mod Project
 pub mod Linear
 pub mod Pack
 pub mod Provers
+pub mod Shift

@@ -5,6 +5,7 @@ ghost use Rattle.eval_reduce.specs.Linear.{linear_step};
 ghost use Rattle.eval_reduce.specs.Merge.{merge};
 ghost use Rattle.eval_reduce.specs.Pack.{pack, VectorsAreCounted};
 ghost use Rattle.eval_reduce.specs.Project.{project, ProjectsKeepTruth};
+ghost use Rattle.eval_reduce.specs.Shift.{shift, ShiftsKeepTruth};
 
 /// A merge keeps truth, and of the draws that join J claims at most J - 1 make a false claim's sum
 /// true. Does nothing.
@@ -28,4 +29,10 @@ pub fn combinations_keep_truth()
 pub fn packings_keep_truth()
     ensures lawful { Lawful pack }
     ensures counted { VectorsAreCounted }
+{}
+
+/// A claim on a shifted column becomes a sum, which is as true, and keeps truth. Does nothing.
+pub fn shiftings_keep_truth()
+    ensures lawful { Lawful shift }
+    ensures same { ShiftsKeepTruth }
 {}

@@ -15,15 +15,20 @@ mod no_memory;
 mod pack_prover;
 mod pack_walk;
 mod packing;
+mod project_prover;
 mod project_step;
 mod projection;
 mod room;
+mod shift_walk;
+mod shifted;
+mod shifting;
 mod virtual_column;
 
 pub use combination::Combination;
 pub use joined::Joined;
 pub use laws::{
     combinations_keep_truth, merges_keep_truth, packings_keep_truth, projections_keep_truth,
+    shiftings_keep_truth,
 };
 pub use linear_prover::LinearProver;
 pub use linear_step::LinearStep;
@@ -33,8 +38,12 @@ pub use no_memory::NoMemory;
 pub use pack_prover::PackProver;
 pub use pack_walk::PackWalk;
 pub use packing::Packing;
+pub use project_prover::ProjectProver;
 pub use project_step::ProjectStep;
 pub use projection::Projection;
+pub use shift_walk::ShiftWalk;
+pub use shifted::Shifted;
+pub use shifting::Shifting;
 
 #[cfg(test)]
 mod tests;

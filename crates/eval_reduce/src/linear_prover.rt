@@ -66,11 +66,25 @@ impl LinearProver {
         ensures new { IfOk result (λ prover. prover.point.items ≡ []) }
     {
         let combination = Combination::of(alloc, shape, table, column, rows)?;
+        LinearProver::of(alloc, &combination, tables)
+    }
+
+    /// The prover for a linear column, from the lists of the columns of its terms.
+    pub(crate) fn of(
+        alloc: Global,
+        combination: &Combination,
+        tables: &ColumnTables,
+    ) -> Result<LinearProver, NoMemory>
+        requires { TermsAreThere tables.now combination.now.table (2 ^ combination.now.vars) combination.now.terms }
+        ensures lists { IfOk result (λ prover. prover.lists.items ≡ given_lists tables.now combination.now.table combination.now.terms) }
+        ensures room { IfOk result (λ prover. combination.now.vars ≤ vec_capacity prover.point) }
+        ensures new { IfOk result (λ prover. prover.point.items ≡ []) }
+    {
         Ok(LinearProver {
             alloc,
             lists: copied_lists(
                 alloc,
-                table,
+                combination.table,
                 combination.terms.as_slice(),
                 tables,
                 combination.vars,

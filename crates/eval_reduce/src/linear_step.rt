@@ -1,6 +1,6 @@
 //! The step of a linear column.
 
-ghost use Rattle.std.specs.Prelude.{◌≡◌, ◌<◌, List, length, slice_get, IfOk, IsSome, Some};
+ghost use Rattle.std.specs.Prelude.{◌≡◌, ◌<◌, ◌≤◌, List, length, slice_get, IfOk, IsSome, Some};
 ghost use Rattle.sumcheck.specs.declared.column_claim.ColumnClaim.{ColumnClaim as Claim};
 ghost use Rattle.eval_reduce.specs.Linear.{combination_of, linear_step, waiting, told, state_linear, Combination as Form, LinearIsDone, LinearTakes};
 
@@ -48,7 +48,14 @@ impl LinearStep {
         requires { IsSome (combination_of shape.now.tables rows table column) }
         ensures { IfOk result (λ step. (f : Form) → combination_of shape.now.tables rows table column ≡ Some f → step ≡ waiting f) }
     {
-        let combination = Combination::of(alloc, shape, table, column, rows)?;
+        LinearStep::of(alloc, Combination::of(alloc, shape, table, column, rows)?)
+    }
+
+    /// A step for a linear column.
+    pub(crate) fn of(alloc: Global, combination: Combination) -> Result<LinearStep, NoMemory>
+        requires { length combination.terms ≤ 64 }
+        ensures { IfOk result (λ step. step ≡ waiting combination) }
+    {
         let vars = combination.vars;
         let terms = combination.terms.len();
         Ok(LinearStep {

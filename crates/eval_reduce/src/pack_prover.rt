@@ -93,7 +93,24 @@ impl PackProver {
         ensures new { IfOk result (λ prover. prover.point.items ≡ []) }
     {
         let packing = Packing::of(shape, table, column, rows);
-        let Some(source) = tables.get(table, packing.source) else {
+        PackProver::of(alloc, &packing, tables)
+    }
+
+    /// The prover for a packed column, from the list of its source.
+    pub(crate) fn of(
+        alloc: Global,
+        packing: &Packing,
+        tables: &ColumnTables,
+    ) -> Result<PackProver, NoMemory>
+        requires small { packing.now.level + packing.now.log ≤ 7 }
+        requires there { IsThere tables.now packing.now.table packing.now.source (2 ^ (packing.now.log + packing.now.vars)) }
+        ensures log { IfOk result (λ prover. prover.log ≡ packing.now.log) }
+        ensures small { IfOk result (λ prover. prover.log ≤ 7) }
+        ensures source { IfOk result (λ prover. prover.source.items ≡ table_of tables.now packing.now.table packing.now.source) }
+        ensures room { IfOk result (λ prover. packing.now.vars ≤ vec_capacity prover.point) }
+        ensures new { IfOk result (λ prover. prover.point.items ≡ []) }
+    {
+        let Some(source) = tables.get(packing.table, packing.source) else {
             unreachable!();
         };
         Ok(PackProver {

@@ -71,7 +71,14 @@ impl PackWalk {
         requires { IsSome (packing_of shape.now.tables rows table column) }
         ensures { IfOk result (λ walk. (f : Form) → packing_of shape.now.tables rows table column ≡ Some f → walk ≡ waiting f) }
     {
-        let packing = Packing::of(shape, table, column, rows);
+        PackWalk::of(alloc, Packing::of(shape, table, column, rows))
+    }
+
+    /// A walk for a packed column.
+    pub(crate) fn of(alloc: Global, packing: Packing) -> Result<PackWalk, NoMemory>
+        requires { packing.level + packing.log ≤ 7 }
+        ensures { IfOk result (λ walk. walk ≡ waiting packing) }
+    {
         Ok(PackWalk {
             alloc,
             packing,

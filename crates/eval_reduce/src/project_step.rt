@@ -62,7 +62,13 @@ impl ProjectStep {
         requires { IsSome (projection_of shape.now.tables rows table column) }
         ensures { IfOk result (λ step. (p : Form) → projection_of shape.now.tables rows table column ≡ Some p → step ≡ waiting p) }
     {
-        let projection = Projection::of(shape, table, column, rows);
+        ProjectStep::of(alloc, Projection::of(shape, table, column, rows))
+    }
+
+    /// A step for a projected column.
+    pub(crate) fn of(alloc: Global, projection: Projection) -> Result<ProjectStep, NoMemory>
+        ensures { IfOk result (λ step. step ≡ waiting projection) }
+    {
         Ok(ProjectStep {
             alloc,
             projection,
