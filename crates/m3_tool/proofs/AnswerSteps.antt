@@ -1,29 +1,27 @@
 -- Steps towards the answer of a check.
-use Rattle.std.proofs.Common.{◌≡◌, ◌≢◌, ◌<◌, ◌≤◌, ℕ, List, length, true, false, Result, Ok, Err, get_or, refl, sym, ◌∙◌, ap, subst, inr, arith}
+use Rattle.std.proofs.Common.{◌≡◌, ◌≢◌, ◌<◌, ◌≤◌, ℕ, List, length, Bool, true, false, Result, Ok, Err, refl, sym, subst, inl, inr, arith}
 use Rattle.std.specs.Prelude.{nat_lt, MatchResult}
 use Rattle.std.specs.Bool.{MatchBool}
 use Rattle.std.proofs.lemmas.Bool.Decides.{nat_tests}
-use Rattle.std.proofs.lemmas.Option.{get_or_from_slice_get}
 use Rattle.table_text.specs.declared.decl.Decl.{Decl}
 use Rattle.table_text.specs.declared.fault.TextFault.{TextFault}
 use Rattle.table_text.specs.declared.fault.TextStop.{TextStop}
 use Rattle.table_text.specs.declared.fault.TextStop.TheVariants.{Fault, NoMemory}
 use Rattle.table_text.specs.Faults.{IsTablesText, IsFirstFault}
 use Rattle.m3_tool.specs.Limits.{max_tables_file, max_witness_file}
-use Rattle.table_shape.specs.declared.shape.ConstraintShape.{ConstraintShape}
-use Rattle.table_shape.specs.declared.shape.TableShape.{TableShape}
-use Rattle.m3_tool.specs.declared.status.Status.TheVariants.{No, Tables, TooLong}
+use Rattle.m3_tool.specs.declared.status.Status.TheVariants.{Tables, TooLong}
 use Rattle.witness_reader.specs.declared.fault.WitnessStop.{WitnessStop}
 use Rattle.table_shape.specs.declared.fault.ShapeFault.{ShapeFault}
+use Rattle.m3_tool.specs.declared.tables.Parsed.{Parsed}
+use Rattle.m3_tool.specs.declared.tables.Parsed.TheVariants as parsed
 use Rattle.m3_tool.specs.declared.check.Shaped.{Shaped}
 use Rattle.m3_tool.specs.declared.check.Shaped.TheVariants as shaped
 use Rattle.witness_reader.specs.Witness.{WitnessData, IsOf, filling_of}
-use Rattle.m3_tool.specs.Checking.{IsShaped, IsShapedFile}
+use Rattle.m3_tool.specs.Checking.{IsParsed, IsParsedFile, IsShapedTables, IsShapedFile}
 use Rattle.table_shape.specs.Parts.{ShapeParts}
 use Rattle.table_shape.specs.Filling.{Filling}
-use Rattle.table_shape.specs.Satisfies.{Violation, IsFirstViolation}
-use Rattle.m3_tool.specs.Lines.{violation_line, too_long_line, shape_fault_line}
-use Rattle.m3_tool.specs.Run.{Answer, answer, IsJudgement, IsWitnessAnswer, IsWitnessFileAnswer, IsTextAnswer, IsCheckAnswer, witness_refusal}
+use Rattle.m3_tool.specs.Lines.{too_long_line, shape_fault_line}
+use Rattle.m3_tool.specs.Run.{Answer, answer, IsJudgement, IsWitnessAnswer, IsWitnessFileAnswer, IsShapeAnswer, IsTextRefusal, IsTextAnswer, OfTablesFile, IsTablesAnswer, IsCheckAnswer, IsPrinted, IsPrintAnswer, witness_refusal}
 use Rattle.m3_tool.specs.Answer.{IsReadOnce, answer_of}
 
 -- a reader that answers every text's declarations and every fault reads each text once
@@ -54,48 +52,60 @@ read_once text (Err (Fault fault)) memory reads refuses = record {
     apart a f e = cc
 read_once text (Err NoMemory) memory reads refuses = absurd (memory refl)
 
--- the line of the first violation, whose table and constraint were read at its numbers
-pub violated_answer : (tables : List TableShape) (rows : List ℕ) (filling : Filling) (v : Violation) → IsFirstViolation tables rows filling v
-    → (table : TableShape) (constraint : ConstraintShape) → table ≡ get_or tables v.table table → constraint ≡ get_or table.constraints v.constraint constraint
-    → (a : Answer) → a ≡ answer No (violation_line table constraint v) → IsJudgement tables rows filling a
-violated_answer tables rows filling v first table constraint at in_table a is =
-    let t : table ≡ first.table = at ∙ get_or_from_slice_get tables v.table first.table table first.table_is in
-    let z : constraint ≡ first.constraint =
-    in_table ∙ ap (λ (s : TableShape). get_or s.constraints v.constraint constraint) t ∙ get_or_from_slice_get first.table.constraints v.constraint first.constraint constraint first.constraint_is in
-    inr (v, first, is ∙ ap (λ (s : TableShape). answer No (violation_line s constraint v)) t ∙ ap (λ (s : ConstraintShape). answer No (violation_line first.table s v)) z)
-
 -- the values of a witness, judged
-pub judged_witness : (tables stored : List TableShape) (file rows : List ℕ) (filling : Filling) (a : Answer) → stored ≡ tables → IsOf tables file rows filling → IsJudgement stored rows filling a → IsWitnessAnswer tables file a
-judged_witness tables stored file rows filling a same (w, read, rows_are, filling_is) judged =
-    let at : IsJudgement tables w.rows (filling_of tables w) a =
-    subst (λ (ts : List TableShape). IsJudgement ts w.rows (filling_of tables w) a) same
+pub judged_witness : (shape stored : ShapeParts) (file rows : List ℕ) (filling : Filling) (a : Answer) → stored ≡ shape → IsOf shape.tables file rows filling → IsJudgement stored rows filling a → IsWitnessAnswer shape file a
+judged_witness shape stored file rows filling a same (w, read, rows_are, filling_is) judged =
+    let at : IsJudgement shape w.rows (filling_of shape.tables w) a =
+    subst (λ (s : ShapeParts). IsJudgement s w.rows (filling_of shape.tables w) a) same
     (subst (λ (f : Filling). IsJudgement stored w.rows f a) filling_is (subst (λ (r : List ℕ). IsJudgement stored r filling a) rows_are judged)) in
-    subst (λ (r : Result WitnessData WitnessStop). MatchResult r (λ (w : WitnessData). IsJudgement tables w.rows (filling_of tables w) a) (λ stop. a ≡ witness_refusal stop)) (sym read) at
+    subst (λ (r : Result WitnessData WitnessStop). MatchResult r (λ (w : WitnessData). IsJudgement shape w.rows (filling_of shape.tables w) a) (λ stop. a ≡ witness_refusal stop)) (sym read) at
 
 -- a file within its limit is judged by what stands in it
-pub within_tables : (text witness : List ℕ) (a : Answer) → length text ≤ max_tables_file → IsTextAnswer text witness a → IsCheckAnswer text witness a
-within_tables text witness a within is =
+pub within_limit : (text : List ℕ) (a : Answer) (P : Type 0) → length text ≤ max_tables_file → P → OfTablesFile text a P
+within_limit text a P within is =
     let short : nat_lt max_tables_file (length text) ≡ false = grind (arith, nat_tests) in
-    subst (λ b. MatchBool b (a ≡ answer TooLong (too_long_line max_tables_file)) (IsTextAnswer text witness a)) (sym short) is
+    subst (λ b. MatchBool b (a ≡ answer TooLong (too_long_line max_tables_file)) P) (sym short) is
 
-pub shaped_file : (text file : List ℕ) (s : Shaped) → text ≡ file → length text ≤ max_tables_file → IsShaped text s → IsReadOnce text → IsShapedFile file s
-shaped_file text file (shaped.Shape tables) same within is once =
-    subst (λ (t : List ℕ). IsShapedFile t (shaped.Shape tables)) same (within, (λ _. once), is)
-shaped_file text file (shaped.Refused refusal) same within is once =
-    subst (λ (t : List ℕ). IsShapedFile t (shaped.Refused refusal)) same ((λ _. once), λ witness. within_tables text witness (answer_of refusal) within (is witness))
+-- what is said of a file's text, said otherwise
+of_tables_file : (t : Bool) (a : Answer) (P Q : Type 0) → (P → Q) → MatchBool t (a ≡ answer TooLong (too_long_line max_tables_file)) P → MatchBool t (a ≡ answer TooLong (too_long_line max_tables_file)) Q
+of_tables_file true a P Q f p = p
+of_tables_file false a P Q f p = f p
 
-pub within_witness : (tables : List TableShape) (witness : List ℕ) (a : Answer) → length witness ≤ max_witness_file → IsWitnessAnswer tables witness a → IsWitnessFileAnswer tables witness a
-within_witness tables witness a within is =
+-- a file whose text is refused has that answer, whatever its declarations would have
+pub refused_file : (text : List ℕ) (Answers : List Decl → Answer → Type 0) (a : Answer) → OfTablesFile text a (IsTextRefusal text a) → IsTablesAnswer text Answers a
+refused_file text Answers a p = of_tables_file (nat_lt max_tables_file (length text)) a (IsTextRefusal text a) (IsTextAnswer text Answers a) (λ refusal. inl refusal) p
+
+-- a file within its limit whose text was judged
+pub parsed_file : (text file : List ℕ) (p : Parsed) → text ≡ file → length text ≤ max_tables_file → IsParsed text p → IsReadOnce text → IsParsedFile file p
+parsed_file text file (parsed.Tables decls) same within is once = subst (λ (t : List ℕ). IsParsedFile t (parsed.Tables decls)) same (within, (λ _. once), is)
+parsed_file text file (parsed.Refused refusal) same within is once =
+    subst (λ (t : List ℕ). IsParsedFile t (parsed.Refused refusal)) same ((λ _. once), within_limit text (answer_of refusal) (IsTextRefusal text (answer_of refusal)) within is)
+
+-- a file of tables that were resolved
+pub shaped_file : (text : List ℕ) (decls : List Decl) (s : Shaped) → IsParsedFile text (parsed.Tables decls) → IsShapedTables decls s → IsShapedFile text s
+shaped_file text decls (shaped.Shape shape) (within, once, is) found = (within, once, (decls, is, found))
+shaped_file text decls (shaped.Refused refusal) (within, once, is) (fault, found, refused) = (
+  once,
+  λ witness. within_limit text (answer_of refusal) (IsTextAnswer text (λ decls a. IsShapeAnswer decls witness a) (answer_of refusal)) within
+      (inr (decls, is, subst (λ (r : Result ShapeParts ShapeFault). MatchResult r (λ shape. IsWitnessFileAnswer shape witness (answer_of refusal)) (λ fault. answer_of refusal ≡ answer Tables (shape_fault_line fault))) (sym found) refused)),
+)
+
+pub within_witness : (shape : ShapeParts) (witness : List ℕ) (a : Answer) → length witness ≤ max_witness_file → IsWitnessAnswer shape witness a → IsWitnessFileAnswer shape witness a
+within_witness shape witness a within is =
     let short : nat_lt max_witness_file (length witness) ≡ false = grind (arith, nat_tests) in
-    subst (λ b. MatchBool b (a ≡ answer TooLong (too_long_line max_witness_file)) (IsWitnessAnswer tables witness a)) (sym short) is
+    subst (λ b. MatchBool b (a ≡ answer TooLong (too_long_line max_witness_file)) (IsWitnessAnswer shape witness a)) (sym short) is
 
-pub long_witness : (tables : List TableShape) (witness : List ℕ) (a : Answer) → max_witness_file < length witness → a ≡ answer TooLong (too_long_line max_witness_file) → IsWitnessFileAnswer tables witness a
-long_witness tables witness a long is =
+pub long_witness : (shape : ShapeParts) (witness : List ℕ) (a : Answer) → max_witness_file < length witness → a ≡ answer TooLong (too_long_line max_witness_file) → IsWitnessFileAnswer shape witness a
+long_witness shape witness a long is =
     let longer : nat_lt max_witness_file (length witness) ≡ true = grind (arith, nat_tests) in
-    subst (λ b. MatchBool b (a ≡ answer TooLong (too_long_line max_witness_file)) (IsWitnessAnswer tables witness a)) (sym longer) is
+    subst (λ b. MatchBool b (a ≡ answer TooLong (too_long_line max_witness_file)) (IsWitnessAnswer shape witness a)) (sym longer) is
 
 -- a file of tables whose shape is known, and the answer to the witness
-pub shaped_check : (text witness : List ℕ) (shape : ShapeParts) (a : Answer) → IsShapedFile text (shaped.Shape shape) → IsWitnessFileAnswer shape.tables witness a → IsCheckAnswer text witness a
+pub shaped_check : (text witness : List ℕ) (shape : ShapeParts) (a : Answer) → IsShapedFile text (shaped.Shape shape) → IsWitnessFileAnswer shape witness a → IsCheckAnswer text witness a
 shaped_check text witness shape a (within, once, (decls, is, found)) answered =
-    within_tables text witness a within
-    (inr (decls, is, subst (λ (r : Result ShapeParts ShapeFault). MatchResult r (λ s. IsWitnessFileAnswer s.tables witness a) (λ fault. a ≡ answer Tables (shape_fault_line fault))) (sym found) answered))
+    within_limit text a (IsTextAnswer text (λ decls a. IsShapeAnswer decls witness a) a) within
+    (inr (decls, is, subst (λ (r : Result ShapeParts ShapeFault). MatchResult r (λ s. IsWitnessFileAnswer s witness a) (λ fault. a ≡ answer Tables (shape_fault_line fault))) (sym found) answered))
+
+-- a file of tables that are printed
+pub printed_file : (text : List ℕ) (decls : List Decl) (a : Answer) → IsParsedFile text (parsed.Tables decls) → IsPrinted decls a → IsPrintAnswer text a
+printed_file text decls a (within, once, is) printed = within_limit text a (IsTextAnswer text IsPrinted a) within (inr (decls, is, printed))

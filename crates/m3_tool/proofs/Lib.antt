@@ -1,7 +1,6 @@
-pub mod Searching
-pub mod Products
 pub mod HexDigits
 pub mod AnswerSteps
 pub mod OneAnswerDue
 pub mod Runs
 pub mod Verdicts
+pub mod Told

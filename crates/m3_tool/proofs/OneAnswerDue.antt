@@ -6,7 +6,6 @@ use Rattle.std.proofs.lemmas.Bool.Decides.{nat_tests}
 use Rattle.table_text.specs.declared.decl.Decl.{Decl}
 use Rattle.table_text.specs.declared.fault.TextFault.{TextFault}
 use Rattle.m3_tool.specs.Limits.{max_tables_file, max_witness_file}
-use Rattle.table_shape.specs.declared.shape.TableShape.{TableShape}
 use Rattle.table_shape.specs.Parts.{ShapeParts}
 use Rattle.table_shape.specs.declared.fault.ShapeFault.{ShapeFault}
 use Rattle.witness_reader.specs.declared.fault.WitnessStop.{WitnessStop}
@@ -14,68 +13,79 @@ use Rattle.m3_tool.specs.declared.status.Status.{Status}
 use Rattle.m3_tool.specs.declared.status.Status.TheVariants.{TooLong}
 use Rattle.table_shape.specs.Shape.{shape_of}
 use Rattle.table_shape.specs.Filling.{Filling}
-use Rattle.table_shape.specs.Satisfies.{Satisfies, Violation, IsFirstViolation}
+use Rattle.table_shape.specs.Satisfies.{Satisfies, Violation, nonzero, unequal, IsFirstViolation}
 use Rattle.witness_reader.specs.Witness.{WitnessData, witness_of, filling_of}
 use Rattle.m3_tool.specs.Lines.{too_long_line}
-use Rattle.m3_tool.specs.Run.{Answer, answer, IsJudgement, IsWitnessAnswer, IsWitnessFileAnswer, IsShapeAnswer, IsTextAnswer, IsCheckAnswer, witness_refusal}
+use Rattle.m3_tool.specs.Run.{Answer, answer, IsJudgement, IsWitnessAnswer, IsWitnessFileAnswer, IsShapeAnswer, IsTextAnswer, IsTablesAnswer, IsCheckAnswer, IsPrinted, IsPrintAnswer, witness_refusal}
 use Rattle.m3_tool.specs.Answer.{IsReadOnce, IsFileReadOnce}
 
 -- values that satisfy tables violate none
-apart : (tables : List TableShape) (rows : List ℕ) (filling : Filling) (v : Violation) → Satisfies tables rows filling → IsFirstViolation tables rows filling v → ⊥
-apart tables rows filling v satisfies first =
-    first.not_zero (first.value ∙ satisfies v.table first.table v.constraint first.constraint first.table_is first.constraint_is v.row v.index first.row first.index)
+apart : (shape : ShapeParts) (rows : List ℕ) (filling : Filling) (v : Violation) → Satisfies shape rows filling → IsFirstViolation shape rows filling v → ⊥
+apart shape rows filling (nonzero v) satisfies first =
+    first.not_zero (first.value ∙ satisfies.zero v.table first.table v.constraint first.constraint first.table_is first.constraint_is v.row v.index first.row first.index)
+apart shape rows filling (unequal v) satisfies (zero, first) = first.unequal (first.pushed_is ∙ satisfies.balanced v.channel first.channel first.channel_is v.tuple ∙ sym first.pulled_is)
 
 same_status : (s : Status) (l m : List ℕ) (a b : Answer) → a ≡ answer s l → b ≡ answer s m → b.status ≡ a.status
 same_status s l m a b is also = ap (λ (x : Answer). x.status) also ∙ sym (ap (λ (x : Answer). x.status) is)
 
-judged_once : (tables : List TableShape) (rows : List ℕ) (filling : Filling) (a b : Answer) → IsJudgement tables rows filling a → IsJudgement tables rows filling b → b.status ≡ a.status
-judged_once tables rows filling a b (inl p) (inl q) = same_status _ _ _ a b p.1 q.1
-judged_once tables rows filling a b (inl p) (inr (v, first, q)) = absurd (apart tables rows filling v p.0 first)
-judged_once tables rows filling a b (inr (v, first, p)) (inl q) = absurd (apart tables rows filling v q.0 first)
-judged_once tables rows filling a b (inr (v, first, p)) (inr (w, second, q)) = same_status _ _ _ a b p q
+judged_once : (shape : ShapeParts) (rows : List ℕ) (filling : Filling) (a b : Answer) → IsJudgement shape rows filling a → IsJudgement shape rows filling b → b.status ≡ a.status
+judged_once shape rows filling a b (inl p) (inl q) = same_status _ _ _ a b p.1 q.1
+judged_once shape rows filling a b (inl p) (inr (v, first, q)) = absurd (apart shape rows filling v p.0 first)
+judged_once shape rows filling a b (inr (v, first, p)) (inl q) = absurd (apart shape rows filling v q.0 first)
+judged_once shape rows filling a b (inr (v, first, p)) (inr (w, second, q)) = same_status _ _ _ a b p q
 
-witness_once : (tables : List TableShape) (r : Result WitnessData WitnessStop) (a b : Answer)
-    → MatchResult r (λ (w : WitnessData). IsJudgement tables w.rows (filling_of tables w) a) (λ stop. a ≡ witness_refusal stop)
-    → MatchResult r (λ (w : WitnessData). IsJudgement tables w.rows (filling_of tables w) b) (λ stop. b ≡ witness_refusal stop) → b.status ≡ a.status
-witness_once tables (Ok w) a b p q = judged_once tables w.rows (filling_of tables w) a b p q
-witness_once tables (Err stop) a b p q = ap (λ (x : Answer). x.status) (q ∙ sym p)
+witness_once : (shape : ShapeParts) (r : Result WitnessData WitnessStop) (a b : Answer)
+    → MatchResult r (λ (w : WitnessData). IsJudgement shape w.rows (filling_of shape.tables w) a) (λ stop. a ≡ witness_refusal stop)
+    → MatchResult r (λ (w : WitnessData). IsJudgement shape w.rows (filling_of shape.tables w) b) (λ stop. b ≡ witness_refusal stop) → b.status ≡ a.status
+witness_once shape (Ok w) a b p q = judged_once shape w.rows (filling_of shape.tables w) a b p q
+witness_once shape (Err stop) a b p q = ap (λ (x : Answer). x.status) (q ∙ sym p)
 
 file_once : (t : Bool) (limit : ℕ) (P : Answer → Type 0) (a b : Answer) → (P a → P b → b.status ≡ a.status)
     → MatchBool t (a ≡ answer TooLong (too_long_line limit)) (P a) → MatchBool t (b ≡ answer TooLong (too_long_line limit)) (P b) → b.status ≡ a.status
 file_once true limit P a b rest p q = ap (λ (x : Answer). x.status) (q ∙ sym p)
 file_once false limit P a b rest p q = rest p q
 
-witness_file_once : (tables : List TableShape) (witness : List ℕ) (a b : Answer) → IsWitnessFileAnswer tables witness a → IsWitnessFileAnswer tables witness b → b.status ≡ a.status
-witness_file_once tables witness a b p q =
-    file_once (nat_lt max_witness_file (length witness)) max_witness_file (IsWitnessAnswer tables witness) a b (λ x y. witness_once tables (witness_of tables witness) a b x y) p q
+witness_file_once : (shape : ShapeParts) (witness : List ℕ) (a b : Answer) → IsWitnessFileAnswer shape witness a → IsWitnessFileAnswer shape witness b → b.status ≡ a.status
+witness_file_once shape witness a b p q =
+    file_once (nat_lt max_witness_file (length witness)) max_witness_file (IsWitnessAnswer shape witness) a b (λ x y. witness_once shape (witness_of shape.tables witness) a b x y) p q
 
 shape_once : (witness : List ℕ) (r : Result ShapeParts ShapeFault) (refusal : ShapeFault → Answer) (a b : Answer)
-    → MatchResult r (λ shape. IsWitnessFileAnswer shape.tables witness a) (λ fault. a ≡ refusal fault)
-    → MatchResult r (λ shape. IsWitnessFileAnswer shape.tables witness b) (λ fault. b ≡ refusal fault) → b.status ≡ a.status
-shape_once witness (Ok shape) refusal a b p q = witness_file_once shape.tables witness a b p q
+    → MatchResult r (λ shape. IsWitnessFileAnswer shape witness a) (λ fault. a ≡ refusal fault)
+    → MatchResult r (λ shape. IsWitnessFileAnswer shape witness b) (λ fault. b ≡ refusal fault) → b.status ≡ a.status
+shape_once witness (Ok shape) refusal a b p q = witness_file_once shape witness a b p q
 shape_once witness (Err fault) refusal a b p q = ap (λ (x : Answer). x.status) (q ∙ sym p)
 
-text_once : (text witness : List ℕ) (a b : Answer) → IsReadOnce text → IsTextAnswer text witness a → IsTextAnswer text witness b → b.status ≡ a.status
-text_once text witness a b once (inl (f, is, p)) (inl (g, also, q)) = same_status _ _ _ a b p q
-text_once text witness a b once (inl (f, is, p)) (inr (d, also, q)) = absurd (two f d (sym (once.fault f is) ∙ once.decls d also))
+text_once : (text : List ℕ) (Answers : List Decl → Answer → Type 0) (a b : Answer) → ((decls : List Decl) → Answers decls a → Answers decls b → b.status ≡ a.status)
+    → IsReadOnce text → IsTextAnswer text Answers a → IsTextAnswer text Answers b → b.status ≡ a.status
+text_once text Answers a b each once (inl (f, is, p)) (inl (g, also, q)) = same_status _ _ _ a b p q
+text_once text Answers a b each once (inl (f, is, p)) (inr (d, also, q)) = absurd (two f d (sym (once.fault f is) ∙ once.decls d also))
   where
     two : (f : TextFault) (d : List Decl) → ◌≡◌ {A = Result (List Decl) TextFault} (Err f) (Ok d) → ⊥
     two f d e = cc
-text_once text witness a b once (inr (d, is, p)) (inl (f, also, q)) = absurd (two f d (sym (once.fault f also) ∙ once.decls d is))
+text_once text Answers a b each once (inr (d, is, p)) (inl (f, also, q)) = absurd (two f d (sym (once.fault f also) ∙ once.decls d is))
   where
     two : (f : TextFault) (d : List Decl) → ◌≡◌ {A = Result (List Decl) TextFault} (Err f) (Ok d) → ⊥
     two f d e = cc
-text_once text witness a b once (inr (d, is, p)) (inr (e, also, q)) =
+text_once text Answers a b each once (inr (d, is, p)) (inr (e, also, q)) =
     let same : e ≡ d = one e d (sym (once.decls e also) ∙ once.decls d is) in
-    shape_once witness (shape_of d) _ a b p (subst (λ (ds : List Decl). IsShapeAnswer ds witness b) same q)
+    each d p (subst (λ (ds : List Decl). Answers ds b) same q)
   where
     one : (e d : List Decl) → ◌≡◌ {A = Result (List Decl) TextFault} (Ok e) (Ok d) → e ≡ d
     one e d h = cc
 
+-- one status is due to a file of tables, where one is due to its declarations
+tables_once : (text : List ℕ) (Answers : List Decl → Answer → Type 0) (a b : Answer) → ((decls : List Decl) → Answers decls a → Answers decls b → b.status ≡ a.status)
+    → IsFileReadOnce text → IsTablesAnswer text Answers a → IsTablesAnswer text Answers b → b.status ≡ a.status
+tables_once text Answers a b each once p q =
+    elim (nat_lt max_tables_file (length text)) as (λ t. nat_lt max_tables_file (length text) ≡ t → MatchBool t (a ≡ answer TooLong (too_long_line max_tables_file)) (IsTextAnswer text Answers a) → MatchBool t (b ≡ answer TooLong (too_long_line max_tables_file)) (IsTextAnswer text Answers b) → b.status ≡ a.status) [
+      | true ↦ λ e x y. ap (λ (s : Answer). s.status) (y ∙ sym x)
+      | false ↦ λ e x y. let within : length text ≤ max_tables_file = grind (arith, nat_tests) in text_once text Answers a b each (once within) x y
+    ] refl p q
+
 -- one status is due to a check
 pub check_once : (text witness : List ℕ) (a b : Answer) → IsFileReadOnce text → IsCheckAnswer text witness a → IsCheckAnswer text witness b → b.status ≡ a.status
-check_once text witness a b once p q =
-    elim (nat_lt max_tables_file (length text)) as (λ t. nat_lt max_tables_file (length text) ≡ t → MatchBool t (a ≡ answer TooLong (too_long_line max_tables_file)) (IsTextAnswer text witness a) → MatchBool t (b ≡ answer TooLong (too_long_line max_tables_file)) (IsTextAnswer text witness b) → b.status ≡ a.status) [
-      | true ↦ λ e x y. ap (λ (s : Answer). s.status) (y ∙ sym x)
-      | false ↦ λ e x y. let within : length text ≤ max_tables_file = grind (arith, nat_tests) in text_once text witness a b (once within) x y
-    ] refl p q
+check_once text witness a b once p q = tables_once text (λ decls a. IsShapeAnswer decls witness a) a b (λ decls x y. shape_once witness (shape_of decls) _ a b x y) once p q
+
+-- one status is due to a print
+pub print_once : (text : List ℕ) (a b : Answer) → IsFileReadOnce text → IsPrintAnswer text a → IsPrintAnswer text b → b.status ≡ a.status
+print_once text a b once p q = tables_once text IsPrinted a b (λ decls x y. same_status _ _ _ a b x y) once p q

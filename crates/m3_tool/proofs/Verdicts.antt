@@ -4,6 +4,7 @@ use Rattle.std.specs.Prelude.{nat_lt, IsTrue, MatchResult}
 use Rattle.std.specs.Bool.{MatchBool}
 use Rattle.std.proofs.lemmas.Bool.Decides.{nat_tests}
 use Rattle.table_text.specs.declared.decl.Decl.{Decl}
+use Rattle.table_text.specs.Canonical.{canonical}
 use Rattle.table_text.specs.Faults.{IsTablesText}
 use Rattle.m3_tool.specs.Limits.{max_tables_file, max_witness_file}
 use Rattle.table_shape.specs.Parts.{ShapeParts}
@@ -15,16 +16,16 @@ use Rattle.m3_tool.specs.declared.status.Status.TheVariants.{Yes, No, Words, Tab
 use Rattle.table_shape.specs.Shape.{shape_of}
 use Rattle.witness_reader.specs.Witness.{WitnessData, witness_of, filling_of}
 use Rattle.m3_tool.specs.Lines.{satisfied_line, too_long_line, shape_fault_line}
-use Rattle.m3_tool.specs.Run.{Answer, answer, CheckReadsFailed, IsJudgement, IsWitnessAnswer, IsWitnessFileAnswer, IsTextAnswer, IsCheckAnswer, HasShape, HasWitness, IsSatisfied, IsViolated, witness_refusal}
+use Rattle.m3_tool.specs.Run.{Answer, answer, CheckReadsFailed, IsJudgement, IsWitnessAnswer, IsWitnessFileAnswer, IsShapeAnswer, IsTextAnswer, IsCheckAnswer, IsPrinted, IsPrintAnswer, HasDecls, HasShape, HasWitness, IsSatisfied, IsViolated, witness_refusal}
 use Rattle.m3_tool.specs.declared.check.Shaped.TheVariants as shaped
 use Rattle.m3_tool.specs.declared.check.Shaped.{Shaped}
-use Rattle.m3_tool.specs.declared.check.Stop.{Stop}
-use Rattle.m3_tool.specs.declared.check.Stop.TheVariants as ended
+use Rattle.m3_tool.specs.declared.tables.Stop.{Stop}
+use Rattle.m3_tool.specs.declared.tables.Stop.TheVariants as ended
 use Rattle.m3_tool.specs.declared.answer.Answer.{Answer as OwnAnswer}
 use Rattle.m3_tool.specs.Checking.{IsShapedFile, OnReadFault}
 use Rattle.byte_ends.specs.Shelf.{ShelfState, bytes_of, ReadFailed, ReadsOnly, SameFaults}
 use Rattle.byte_ends.proofs.ReadSteps.{failed_since}
-use Rattle.m3_tool.proofs.AnswerSteps.{within_tables, within_witness}
+use Rattle.m3_tool.proofs.AnswerSteps.{within_limit, within_witness}
 use Rattle.table_shape.proofs.MeantShape.{shaped_where_meant}
 use Rattle.witness_reader.proofs.GivenWitness.{read_where_given}
 
@@ -55,10 +56,10 @@ refusal stop.NoMemory h = h
 -- tables and a witness were read, and the witness was judged
 record IsJudged (text witness : List ℕ) (a : Answer) : Type 0 where
   read : HasWitness text witness
-  judgement : IsJudgement read.shape.parts.tables read.given.rows (filling_of read.shape.parts.tables read.given) a
+  judgement : IsJudgement read.shape.parts read.given.rows (filling_of read.shape.parts.tables read.given) a
 
 of_witness : (text witness : List ℕ) (shape : HasShape text) (a : Answer) (r : Result WitnessData WitnessStop) → length witness ≤ max_witness_file → witness_of shape.parts.tables witness ≡ r
-    → MatchResult r (λ (w : WitnessData). IsJudgement shape.parts.tables w.rows (filling_of shape.parts.tables w) a) (λ stop. a ≡ witness_refusal stop) → IsVerdictStatus a.status → IsJudged text witness a
+    → MatchResult r (λ (w : WitnessData). IsJudgement shape.parts w.rows (filling_of shape.parts.tables w) a) (λ stop. a ≡ witness_refusal stop) → IsVerdictStatus a.status → IsJudged text witness a
 of_witness text witness shape a (Ok w) within read p h = record {
   read = record { shape = shape; given = w; within = within; witness_is = (read_where_given shape.parts.tables witness w).0 read };
   judgement = p;
@@ -66,21 +67,21 @@ of_witness text witness shape a (Ok w) within read p h = record {
 of_witness text witness shape a (Err s) within read p h = absurd (refusal s (verdict_of a (witness_refusal s) p h))
 
 of_file : (text witness : List ℕ) (shape : HasShape text) (a : Answer) (t : Bool) → nat_lt max_witness_file (length witness) ≡ t
-    → MatchBool t (a ≡ answer TooLong (too_long_line max_witness_file)) (IsWitnessAnswer shape.parts.tables witness a) → IsVerdictStatus a.status → IsJudged text witness a
+    → MatchBool t (a ≡ answer TooLong (too_long_line max_witness_file)) (IsWitnessAnswer shape.parts witness a) → IsVerdictStatus a.status → IsJudged text witness a
 of_file text witness shape a true long p h = absurd (verdict_of a (answer TooLong (too_long_line max_witness_file)) p h)
 of_file text witness shape a false long p h = of_witness text witness shape a (witness_of shape.parts.tables witness) (not_longer max_witness_file (length witness) long) refl p h
 
 of_shape : (text witness : List ℕ) (decls : List Decl) (a : Answer) (r : Result ShapeParts ShapeFault) → length text ≤ max_tables_file → IsTablesText text decls → shape_of decls ≡ r
-    → MatchResult r (λ shape. IsWitnessFileAnswer shape.tables witness a) (λ fault. a ≡ answer Tables (shape_fault_line fault)) → IsVerdictStatus a.status → IsJudged text witness a
+    → MatchResult r (λ shape. IsWitnessFileAnswer shape witness a) (λ fault. a ≡ answer Tables (shape_fault_line fault)) → IsVerdictStatus a.status → IsJudged text witness a
 of_shape text witness decls a (Ok tables) within is shaped p h =
     of_file text witness (record { decls = decls; parts = tables; within = within; text_is = is; shape_is = (shaped_where_meant decls tables).0 shaped }) a (nat_lt max_witness_file (length witness)) refl p h
 of_shape text witness decls a (Err fault) within is shaped p h = absurd (verdict_of a (answer Tables (shape_fault_line fault)) p h)
 
-of_text : (text witness : List ℕ) (a : Answer) → length text ≤ max_tables_file → IsTextAnswer text witness a → IsVerdictStatus a.status → IsJudged text witness a
+of_text : (text witness : List ℕ) (a : Answer) → length text ≤ max_tables_file → IsTextAnswer text (λ decls a. IsShapeAnswer decls witness a) a → IsVerdictStatus a.status → IsJudged text witness a
 of_text text witness a within (inl (fault, is, p)) h = absurd (verdict_of a _ p h)
 of_text text witness a within (inr (decls, is, p)) h = of_shape text witness decls a (shape_of decls) within is refl p h
 
-of_tables : (text witness : List ℕ) (a : Answer) (t : Bool) → nat_lt max_tables_file (length text) ≡ t → MatchBool t (a ≡ answer TooLong (too_long_line max_tables_file)) (IsTextAnswer text witness a) → IsVerdictStatus a.status
+of_tables : (text witness : List ℕ) (a : Answer) (t : Bool) → nat_lt max_tables_file (length text) ≡ t → MatchBool t (a ≡ answer TooLong (too_long_line max_tables_file)) (IsTextAnswer text (λ decls a. IsShapeAnswer decls witness a) a) → IsVerdictStatus a.status
     → IsJudged text witness a
 of_tables text witness a true long p h = absurd (verdict_of a (answer TooLong (too_long_line max_tables_file)) p h)
 of_tables text witness a false long p h = of_text text witness a (not_longer max_tables_file (length text) long) p h
@@ -97,30 +98,30 @@ apart e = cc
 pub satisfied : (text witness : List ℕ) (a : Answer) → IsCheckAnswer text witness a → a.status ≡ Yes → IsSatisfied text witness × (a.line ≡ satisfied_line)
 satisfied text witness a p is_yes = let j = judged text witness a p (yes_or_no a Yes is_yes tt) in by_judgement j j.judgement
   where
-    by_judgement : (j : IsJudged text witness a) → IsJudgement j.read.shape.parts.tables j.read.given.rows (filling_of j.read.shape.parts.tables j.read.given) a → IsSatisfied text witness × (a.line ≡ satisfied_line)
+    by_judgement : (j : IsJudged text witness a) → IsJudgement j.read.shape.parts j.read.given.rows (filling_of j.read.shape.parts.tables j.read.given) a → IsSatisfied text witness × (a.line ≡ satisfied_line)
     by_judgement j (inl q) = (record { read = j.read; satisfies = q.0 }, ap (λ (x : Answer). x.line) q.1)
     by_judgement j (inr (v, first, q)) = absurd (apart (sym is_yes ∙ ap (λ (x : Answer). x.status) q))
 
 pub violated : (text witness : List ℕ) (a : Answer) → IsCheckAnswer text witness a → a.status ≡ No → IsViolated text witness a.line
 violated text witness a p is_no = let j = judged text witness a p (yes_or_no a No is_no tt) in by_judgement j j.judgement
   where
-    by_judgement : (j : IsJudged text witness a) → IsJudgement j.read.shape.parts.tables j.read.given.rows (filling_of j.read.shape.parts.tables j.read.given) a → IsViolated text witness a.line
+    by_judgement : (j : IsJudged text witness a) → IsJudgement j.read.shape.parts j.read.given.rows (filling_of j.read.shape.parts.tables j.read.given) a → IsViolated text witness a.line
     by_judgement j (inl q) = absurd (apart (sym (ap (λ (x : Answer). x.status) q.1) ∙ is_no))
     by_judgement j (inr (v, first, q)) = record { read = j.read; violation = v; first = first; line_is = ap (λ (x : Answer). x.line) q }
 
 -- what the values are judged to be is due to the files that give them
-judgement_due : (text witness : List ℕ) (a : Answer) (read : HasWitness text witness) → IsJudgement read.shape.parts.tables read.given.rows (filling_of read.shape.parts.tables read.given) a → IsCheckAnswer text witness a
+judgement_due : (text witness : List ℕ) (a : Answer) (read : HasWitness text witness) → IsJudgement read.shape.parts read.given.rows (filling_of read.shape.parts.tables read.given) a → IsCheckAnswer text witness a
 judgement_due text witness a read judged =
     let shaped = (shaped_where_meant read.shape.decls read.shape.parts).1 read.shape.shape_is in
     let given = (read_where_given read.shape.parts.tables witness read.given).1 read.witness_is in
-    let witness_due : IsWitnessAnswer read.shape.parts.tables witness a =
-    subst (λ (r : Result WitnessData WitnessStop). MatchResult r (λ (w : WitnessData). IsJudgement read.shape.parts.tables w.rows (filling_of read.shape.parts.tables w) a) (λ stop. a ≡ witness_refusal stop)) (sym given) judged in
-    let file_due = within_witness read.shape.parts.tables witness a read.within witness_due in
-    within_tables text witness a read.shape.within
+    let witness_due : IsWitnessAnswer read.shape.parts witness a =
+    subst (λ (r : Result WitnessData WitnessStop). MatchResult r (λ (w : WitnessData). IsJudgement read.shape.parts w.rows (filling_of read.shape.parts.tables w) a) (λ stop. a ≡ witness_refusal stop)) (sym given) judged in
+    let file_due = within_witness read.shape.parts witness a read.within witness_due in
+    within_limit text a (IsTextAnswer text (λ decls a. IsShapeAnswer decls witness a) a) read.shape.within
     (inr (
       read.shape.decls,
       read.shape.text_is,
-      subst (λ (r : Result ShapeParts ShapeFault). MatchResult r (λ s. IsWitnessFileAnswer s.tables witness a) (λ fault. a ≡ answer Tables (shape_fault_line fault))) (sym shaped) file_due,
+      subst (λ (r : Result ShapeParts ShapeFault). MatchResult r (λ s. IsWitnessFileAnswer s witness a) (λ fault. a ≡ answer Tables (shape_fault_line fault))) (sym shaped) file_due,
     ))
 
 pub satisfied_due : (text witness : List ℕ) → IsSatisfied text witness → IsCheckAnswer text witness (answer Yes satisfied_line)
@@ -128,6 +129,24 @@ satisfied_due text witness is = judgement_due text witness (answer Yes satisfied
 
 pub violated_due : (text witness line : List ℕ) → IsViolated text witness line → IsCheckAnswer text witness (answer No line)
 violated_due text witness line is = judgement_due text witness (answer No line) is.read (inr (is.violation, is.first, ap (answer No) is.line_is))
+
+-- a print that says Yes has read tables
+pub printed : (text : List ℕ) (a : Answer) → IsPrintAnswer text a → a.status ≡ Yes → (decls : List Decl) × IsTablesText text decls × (a.line ≡ canonical decls)
+printed text a p is_yes = by_length (nat_lt max_tables_file (length text)) p
+  where
+    too_long : Yes ≡ TooLong → ⊥
+    too_long e = cc
+
+    refused : Yes ≡ Tables → ⊥
+    refused e = cc
+
+    by_length : (t : Bool) → MatchBool t (a ≡ answer TooLong (too_long_line max_tables_file)) (IsTextAnswer text IsPrinted a) → (decls : List Decl) × IsTablesText text decls × (a.line ≡ canonical decls)
+    by_length true q = absurd (too_long (sym is_yes ∙ ap (λ (x : Answer). x.status) q))
+    by_length false (inl (fault, is, q)) = absurd (refused (sym is_yes ∙ ap (λ (x : Answer). x.status) q))
+    by_length false (inr (decls, is, q)) = (decls, is, ap (λ (x : Answer). x.line) q)
+
+pub print_due : (text : List ℕ) (has : HasDecls text) → IsPrintAnswer text (answer Yes (canonical has.decls))
+print_due text has = let a = answer Yes (canonical has.decls) in within_limit text a (IsTextAnswer text IsPrinted a) has.within (inr (has.decls, has.text_is, refl))
 
 -- the file of tables whose shape was found
 pub has_shape : (text : List ℕ) (tables : ShapeParts) → IsShapedFile text (shaped.Shape tables) → HasShape text

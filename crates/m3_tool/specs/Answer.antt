@@ -8,6 +8,8 @@ use Rattle.m3_tool.specs.Limits.{max_tables_file}
 use Rattle.m3_tool.specs.declared.answer.Text.{Text}
 use Rattle.m3_tool.specs.declared.answer.Text.TheVariants.{Fixed, Made}
 use Rattle.m3_tool.specs.declared.answer.Answer.{Answer as OwnAnswer}
+use Rattle.m3_tool.specs.declared.tables.Stop.{Stop}
+use Rattle.m3_tool.specs.declared.tables.Stop.TheVariants as stop
 use Rattle.m3_tool.specs.Run.{Answer, answer, IsDue, ReadsFailed, fileless_answer, is_outside}
 use Rattle.byte_ends.specs.Shelf.{ShelfState, SameFaults, ReadsOnly}
 use Rattle.m3_tool.specs.declared.status.Status.TheVariants.{Words, ReadFault, WriteFault, NoMemory}
@@ -20,6 +22,12 @@ line_of (Made text) = text.items
 
 abbrev pub answer_of : OwnAnswer → Answer
 answer_of a = answer a.status (line_of a.text)
+
+-- the answer of a command, or that of what stopped it
+abbrev pub Stops : Result OwnAnswer Stop → Answer → Type 0
+Stops (Ok a) b = b ≡ answer_of a
+Stops (Err stop.ReadFault) b = b ≡ answer ReadFault read_fault_line
+Stops (Err stop.NoMemory) b = b ≡ answer NoMemory no_memory_line
 
 -- a text is read in one way: it has declarations or a first fault, and no others
 pub record IsReadOnce (text : List ℕ) : Type 0 where

@@ -4,24 +4,38 @@ use Rattle.std.specs.Prelude.{◌≡◌, ◌≤◌, ℕ, List, length, Result, O
 use Rattle.table_text.specs.declared.decl.Decl.{Decl}
 use Rattle.table_text.specs.Faults.{IsTablesText}
 use Rattle.m3_tool.specs.Limits.{max_tables_file}
+use Rattle.m3_tool.specs.declared.tables.Parsed.{Parsed}
+use Rattle.m3_tool.specs.declared.tables.Parsed.TheVariants as parsed
 use Rattle.m3_tool.specs.declared.check.Shaped.{Shaped}
 use Rattle.m3_tool.specs.declared.check.Shaped.TheVariants as shaped
 use Rattle.m3_tool.specs.declared.status.Status.{Status}
 use Rattle.m3_tool.specs.declared.status.Status.TheVariants.{Yes, No, Words, Tables, Witness, ReadFault, WriteFault, TooLarge, NoMemory, TooLong}
 use Rattle.table_shape.specs.Shape.{shape_of}
-use Rattle.m3_tool.specs.Run.{IsTextAnswer, IsCheckAnswer}
-use Rattle.m3_tool.specs.declared.check.Stop.{Stop}
-use Rattle.m3_tool.specs.declared.check.Stop.TheVariants as stop
+use Rattle.m3_tool.specs.Run.{answer, IsTextRefusal, OfTablesFile, IsCheckAnswer}
+use Rattle.m3_tool.specs.Lines.{shape_fault_line}
+use Rattle.table_shape.specs.declared.fault.ShapeFault.{ShapeFault}
+use Rattle.m3_tool.specs.declared.tables.Stop.{Stop}
+use Rattle.m3_tool.specs.declared.tables.Stop.TheVariants as stop
 use Rattle.m3_tool.specs.Answer.{answer_of, IsFileReadOnce}
 
--- the text of a shape, or the answer to a text that has none, whatever the witness is
-abbrev pub IsShaped : List ℕ → Shaped → Type 0
-IsShaped text (shaped.Shape shape) = (decls : List Decl) × IsTablesText text decls × (shape_of decls ≡ Ok shape)
-IsShaped text (shaped.Refused a) = (witness : List ℕ) → IsTextAnswer text witness (answer_of a)
+-- the declarations of a text, or the answer to a text that has none
+abbrev pub IsParsed : List ℕ → Parsed → Type 0
+IsParsed text (parsed.Tables decls) = IsTablesText text decls
+IsParsed text (parsed.Refused a) = IsTextRefusal text (answer_of a)
 
 -- the same of a file, which may be too long
+abbrev pub IsParsedFile : List ℕ → Parsed → Type 0
+IsParsedFile text (parsed.Tables decls) = (length text ≤ max_tables_file) × IsFileReadOnce text × IsTablesText text decls
+IsParsedFile text (parsed.Refused a) = IsFileReadOnce text × OfTablesFile text (answer_of a) (IsTextRefusal text (answer_of a))
+
+-- the shape of declarations, or the answer to those that have none
+abbrev pub IsShapedTables : List Decl → Shaped → Type 0
+IsShapedTables decls (shaped.Shape shape) = shape_of decls ≡ Ok shape
+IsShapedTables decls (shaped.Refused a) = (fault : ShapeFault) × (shape_of decls ≡ Err fault) × (answer_of a ≡ answer Tables (shape_fault_line fault))
+
+-- the shape of a file, or the answer to a file that has none, whatever the witness is
 abbrev pub IsShapedFile : List ℕ → Shaped → Type 0
-IsShapedFile text (shaped.Shape shape) = (length text ≤ max_tables_file) × IsFileReadOnce text × IsShaped text (shaped.Shape shape)
+IsShapedFile text (shaped.Shape shape) = (length text ≤ max_tables_file) × IsFileReadOnce text × ((decls : List Decl) × IsTablesText text decls × (shape_of decls ≡ Ok shape))
 IsShapedFile text (shaped.Refused a) = IsFileReadOnce text × ((witness : List ℕ) → IsCheckAnswer text witness (answer_of a))
 
 abbrev pub OnReadFault : {X : Type 0} → Result X Stop → Type 0 → Type 0
@@ -46,6 +60,10 @@ EndsCheck Words = ⊥
 EndsCheck ReadFault = ⊥
 EndsCheck WriteFault = ⊥
 EndsCheck NoMemory = ⊥
+
+abbrev pub RefusalEnds : Parsed → Type 0
+RefusalEnds (parsed.Tables decls) = Unit {0}
+RefusalEnds (parsed.Refused a) = EndsCheck a.status
 
 abbrev pub RefusalEndsCheck : Shaped → Type 0
 RefusalEndsCheck (shaped.Shape shape) = Unit {0}

@@ -6,6 +6,8 @@ use Rattle.std.specs.Str.{bytes_eq}
 pub data Command : Type 0 where
   -- says whether the witness in the second file satisfies the tables in the first
   check : List ℕ → List ℕ → Command
+  -- prints the canonical text of the tables in a file
+  print : List ℕ → Command
   help : Command
   version : Command
 
@@ -13,6 +15,6 @@ pub data Command : Type 0 where
 abbrev pub command_of : List (List ℕ) → Option Command
 command_of [] = None
 command_of (word ∷ []) = if bytes_eq word (codes "--help") then Some help else (if bytes_eq word (codes "--version") then Some version else None)
-command_of (word ∷ a ∷ []) = None
+command_of (word ∷ a ∷ []) = if bytes_eq word (codes "print") then Some (print a) else None
 command_of (word ∷ a ∷ b ∷ []) = if bytes_eq word (codes "check") then Some (check a b) else None
 command_of (word ∷ a ∷ b ∷ c ∷ more) = None

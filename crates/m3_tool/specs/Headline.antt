@@ -6,9 +6,12 @@ use Rattle.byte_ends.specs.Shelf.{ShelfState, bytes_of}
 use Rattle.byte_ends.specs.Sink.{SinkState, Puts, PutsPrefix}
 use Rattle.m3_tool.specs.declared.status.Status.{Status}
 use Rattle.m3_tool.specs.declared.status.Status.TheVariants.{Yes, No, ReadFault, WriteFault}
-use Rattle.m3_tool.specs.Command.{Command, check}
+use Rattle.table_text.specs.declared.decl.Decl.{Decl}
+use Rattle.table_text.specs.Canonical.{canonical}
+use Rattle.table_text.specs.Faults.{IsTablesText}
+use Rattle.m3_tool.specs.Command.{Command, check, print}
 use Rattle.m3_tool.specs.Lines.{satisfied_line, read_fault_line, no_memory_line}
-use Rattle.m3_tool.specs.Run.{Answer, IsDue, IsSatisfied, IsViolated, ReadsFailed, fileless_answer, is_outside}
+use Rattle.m3_tool.specs.Run.{Answer, HasDecls, IsDue, IsSatisfied, IsViolated, ReadsFailed, fileless_answer, is_outside}
 
 -- the answer that is due has this status, and its line was put
 pub record PutsDue (c : Option Command) (shelf : ShelfState) (old new : SinkState) (status : Status) : Type 0 where
@@ -31,6 +34,11 @@ abbrev pub SaysViolated : Option Command → ShelfState → SinkState → SinkSt
 SaysViolated c shelf old new status =
     (tables witness : List ℕ) → c ≡ Some (check tables witness) → IsTrue shelf.told → status ≡ No → (line : List ℕ) × IsViolated (bytes_of shelf tables) (bytes_of shelf witness) line × Puts old new line
 
+-- a print that says Yes has read tables, and puts their canonical text
+abbrev pub SaysPrinted : Option Command → ShelfState → SinkState → SinkState → Status → Type 0
+SaysPrinted c shelf old new status =
+    (tables : List ℕ) → c ≡ Some (print tables) → IsTrue shelf.told → status ≡ Yes → (decls : List Decl) × IsTablesText (bytes_of shelf tables) decls × Puts old new (canonical decls)
+
 -- words that name no file have their answer, whatever the shelf tells, unless a write fails
 abbrev pub AnswersWords : Option Command → SinkState → SinkState → Status → Type 0
 AnswersWords c old new status = (a : Answer) → fileless_answer c ≡ Some a → ((status ≡ a.status) × Puts old new a.line) ⊎ ((status ≡ WriteFault) × Rose old.faults new.faults)
@@ -39,10 +47,11 @@ AnswersWords c old new status = (a : Answer) → fileless_answer c ≡ Some a �
 abbrev pub EndsWith : Status → Status → Type 0
 EndsWith expected status = (status ≡ expected) ⊎ IsTrue (is_outside status)
 
--- a check whose files are accepted says whether the witness satisfies the tables, unless the outside ends the run
+-- a check whose files are accepted says whether the witness satisfies the tables, and a print of accepted tables says Yes, unless the outside ends the run
 pub record SaysWhether (c : Option Command) (shelf : ShelfState) (status : Status) : Type 0 where
   pub yes : (tables witness : List ℕ) → c ≡ Some (check tables witness) → IsTrue shelf.told → IsSatisfied (bytes_of shelf tables) (bytes_of shelf witness) → EndsWith Yes status
   pub no : (tables witness line : List ℕ) → c ≡ Some (check tables witness) → IsTrue shelf.told → IsViolated (bytes_of shelf tables) (bytes_of shelf witness) line → EndsWith No status
+  pub printed : (tables : List ℕ) → c ≡ Some (print tables) → IsTrue shelf.told → HasDecls (bytes_of shelf tables) → EndsWith Yes status
 
 -- where no count of faults rose, the outside ends a run by want of memory alone
 abbrev pub IsUndisturbed : ShelfState → ShelfState → SinkState → SinkState → Status → Type 0

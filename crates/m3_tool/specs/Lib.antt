@@ -1,5 +1,4 @@
 pub mod Limits
-pub mod Judging
 pub mod Status
 pub mod Command
 pub mod Lines

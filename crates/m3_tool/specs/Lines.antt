@@ -1,7 +1,8 @@
 -- The lines that are printed.
 -- Source: docs/FORMATS.md, "What is printed".
-use Rattle.std.specs.Prelude.{ℕ, false, List, [], ◌++◌, codes}
+use Rattle.std.specs.Prelude.{ℕ, false, List, [], ◌++◌, map, codes}
 use Rattle.std.specs.Fmt.{decimal, digits}
+use Rattle.table_text.specs.Canonical.{joined}
 use Rattle.table_text.specs.declared.fault.TextFault.{TextFault}
 use Rattle.table_text.specs.declared.fault.TextKind.{TextKind}
 use Rattle.table_text.specs.declared.fault.TextKind.TheVariants as text
@@ -13,9 +14,12 @@ use Rattle.witness_reader.specs.declared.fault.WitnessPlace.TheVariants.{Whole, 
 use Rattle.witness_reader.specs.declared.fault.WitnessKind.{WitnessKind}
 use Rattle.witness_reader.specs.declared.fault.WitnessKind.TheVariants as witness
 use Rattle.witness_reader.specs.declared.fault.WitnessFault.{WitnessFault}
+use Rattle.table_shape.specs.declared.shape.ChannelShape.{ChannelShape}
 use Rattle.table_shape.specs.declared.shape.ConstraintShape.{ConstraintShape}
 use Rattle.table_shape.specs.declared.shape.TableShape.{TableShape}
-use Rattle.table_shape.specs.Satisfies.{Violation}
+use Rattle.table_shape.specs.Parts.{ShapeParts}
+use Rattle.table_shape.specs.Filling.{Filling}
+use Rattle.table_shape.specs.Satisfies.{NonZero, Unequal, Violation, nonzero, unequal, IsFirstViolation}
 
 -- a number in hexadecimal digits
 abbrev pub hex : ℕ → List ℕ
@@ -24,13 +28,28 @@ hex n = digits 16 false n
 abbrev pub satisfied_line : List ℕ
 satisfied_line = codes "satisfied\n"
 
+-- the number of an element
+abbrev pub value_text : ℕ → List ℕ
+value_text n = codes "0x" ++ hex n
+
 -- which table and which constraint a violation is of
 abbrev pub violated : TableShape → ConstraintShape → List ℕ
 violated table constraint = codes "violated: table " ++ table.name ++ codes ", zero " ++ constraint.name
 
-abbrev pub violation_line : TableShape → ConstraintShape → Violation → List ℕ
-violation_line table constraint v =
+-- the line of a constraint that isn't 0
+abbrev pub nonzero_line : TableShape → ConstraintShape → NonZero → List ℕ
+nonzero_line table constraint v =
     violated table constraint ++ codes ", row " ++ decimal v.row ++ codes ", index " ++ decimal v.index ++ codes ", value 0x" ++ hex v.value ++ codes "\n"
+
+-- the line of a tuple that is pushed and pulled unequally often
+abbrev pub unequal_line : ChannelShape → Unequal → List ℕ
+unequal_line channel v =
+    codes "violated: channel " ++ channel.name ++ codes ", tuple (" ++ joined (codes ", ") (map value_text v.tuple) ++ codes "), pushed " ++ decimal v.pushed ++ codes ", pulled " ++ decimal v.pulled ++ codes "\n"
+
+-- the line of the first violation
+abbrev pub violation_line : (shape : ShapeParts) (rows : List ℕ) (filling : Filling) (v : Violation) → IsFirstViolation shape rows filling v → List ℕ
+violation_line shape rows filling (nonzero v) first = nonzero_line first.table first.constraint v
+violation_line shape rows filling (unequal v) first = unequal_line first.1.channel v
 
 abbrev pub text_kind_name : TextKind → List ℕ
 text_kind_name text.NotText = codes "NotText"
@@ -52,8 +71,10 @@ shape_kind_name shape.BlockTooLong = codes "BlockTooLong"
 shape_kind_name shape.OffsetOutOfRange = codes "OffsetOutOfRange"
 shape_kind_name shape.RepeatedTerm = codes "RepeatedTerm"
 shape_kind_name shape.DegreeTooHigh = codes "DegreeTooHigh"
+shape_kind_name shape.TupleWidth = codes "TupleWidth"
+shape_kind_name shape.NotOneValue = codes "NotOneValue"
+shape_kind_name shape.SelectorNotBit = codes "SelectorNotBit"
 shape_kind_name shape.TooMany = codes "TooMany"
-shape_kind_name shape.NotBuilt = codes "NotBuilt"
 
 abbrev pub shape_fault_line : ShapeFault → List ℕ
 shape_fault_line fault = codes "tables: " ++ shape_kind_name fault.kind ++ codes " at item " ++ decimal fault.item ++ codes "\n"
@@ -99,6 +120,6 @@ version_line = codes "bm3 0.1.0\n"
 
 unfoldable pub help_text : List ℕ
 help_text =
-    codes "bm3 check TABLES WITNESS\n    Says whether a witness satisfies tables. Reads both files and writes none.\n" ++ codes "bm3 --help\n    Prints this text.\n" ++ codes "bm3 --version\n    Prints the version.\n"
+    codes "bm3 check TABLES WITNESS\n    Says whether a witness satisfies tables. Reads both files and writes none.\n" ++ codes "bm3 print TABLES\n    Prints the canonical text of tables. Reads the file and writes none.\n" ++ codes "bm3 --help\n    Prints this text.\n" ++ codes "bm3 --version\n    Prints the version.\n"
     ++ codes "Statuses:\n    0   satisfied, or the text was printed\n    1   the witness violates the tables\n    2   the words fit no command\n    3   the text of the tables or their shape is refused\n    4   the witness is refused\n"
     ++ codes "    6   a read failed\n    7   a write failed\n    8   the columns take too many bits\n    9   out of memory\n    10  a file is too long\n"

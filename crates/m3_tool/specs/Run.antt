@@ -5,9 +5,9 @@ use Rattle.std.specs.Bool.{MatchBool}
 use Rattle.byte_ends.specs.Shelf.{ShelfState, bytes_of, ReadFailed}
 use Rattle.table_text.specs.declared.decl.Decl.{Decl}
 use Rattle.table_text.specs.declared.fault.TextFault.{TextFault}
+use Rattle.table_text.specs.Canonical.{canonical}
 use Rattle.table_text.specs.Faults.{IsTablesText, IsFirstFault}
 use Rattle.m3_tool.specs.Limits.{max_tables_file, max_witness_file}
-use Rattle.table_shape.specs.declared.shape.TableShape.{TableShape}
 use Rattle.witness_reader.specs.declared.fault.WitnessStop.{WitnessStop}
 use Rattle.witness_reader.specs.declared.fault.WitnessStop.TheVariants as stop
 use Rattle.m3_tool.specs.declared.status.Status.{Status}
@@ -19,7 +19,7 @@ use Rattle.table_shape.specs.Filling.{Filling}
 use Rattle.table_shape.specs.Satisfies.{Satisfies, Violation, IsFirstViolation}
 use Rattle.witness_reader.specs.Witness.{WitnessData, witness_of, filling_of}
 use Rattle.witness_reader.specs.WitnessMeaning.{GivesWitness}
-use Rattle.m3_tool.specs.Command.{Command, check, help, version}
+use Rattle.m3_tool.specs.Command.{Command, check, print, help, version}
 use Rattle.m3_tool.specs.Lines.{satisfied_line, violation_line, text_fault_line, shape_fault_line, witness_fault_line, too_large_line, too_long_line, words_line, no_memory_line, help_text, version_line}
 
 -- how a run ends, and what it puts
@@ -31,10 +31,10 @@ abbrev pub answer : Status → List ℕ → Answer
 answer status line = record { status = status; line = line }
 
 -- the values satisfy the tables, or this is the first violation
-abbrev pub IsJudgement : List TableShape → List ℕ → Filling → Answer → Type 0
-IsJudgement tables rows filling a =
-    (Satisfies tables rows filling × (a ≡ answer Yes satisfied_line))
-    ⊎ ((v : Violation) × (first : IsFirstViolation tables rows filling v) × (a ≡ answer No (violation_line first.table first.constraint v)))
+abbrev pub IsJudgement : ShapeParts → List ℕ → Filling → Answer → Type 0
+IsJudgement shape rows filling a =
+    (Satisfies shape rows filling × (a ≡ answer Yes satisfied_line))
+    ⊎ ((v : Violation) × (first : IsFirstViolation shape rows filling v) × (a ≡ answer No (violation_line shape rows filling v first)))
 
 abbrev pub witness_refusal : WitnessStop → Answer
 witness_refusal (stop.Fault fault) = answer Witness (witness_fault_line fault)
@@ -42,30 +42,48 @@ witness_refusal (stop.TooLarge log_bits) = answer TooLarge (too_large_line log_b
 witness_refusal stop.NoMemory = answer NoMemory no_memory_line
 
 -- the witness is refused, or the values that it gives are judged
-abbrev pub IsWitnessAnswer : List TableShape → List ℕ → Answer → Type 0
-IsWitnessAnswer tables witness a = MatchResult (witness_of tables witness) (λ (w : WitnessData). IsJudgement tables w.rows (filling_of tables w) a) (λ stop. a ≡ witness_refusal stop)
+abbrev pub IsWitnessAnswer : ShapeParts → List ℕ → Answer → Type 0
+IsWitnessAnswer shape witness a = MatchResult (witness_of shape.tables witness) (λ (w : WitnessData). IsJudgement shape w.rows (filling_of shape.tables w) a) (λ stop. a ≡ witness_refusal stop)
 
 -- a file of a witness is too long, or it is read
-abbrev pub IsWitnessFileAnswer : List TableShape → List ℕ → Answer → Type 0
-IsWitnessFileAnswer tables witness a = MatchBool (nat_lt max_witness_file (length witness)) (a ≡ answer TooLong (too_long_line max_witness_file)) (IsWitnessAnswer tables witness a)
+abbrev pub IsWitnessFileAnswer : ShapeParts → List ℕ → Answer → Type 0
+IsWitnessFileAnswer shape witness a = MatchBool (nat_lt max_witness_file (length witness)) (a ≡ answer TooLong (too_long_line max_witness_file)) (IsWitnessAnswer shape witness a)
 
 -- the declarations have no shape, or the witness is read
 abbrev pub IsShapeAnswer : List Decl → List ℕ → Answer → Type 0
-IsShapeAnswer decls witness a = MatchResult (shape_of decls) (λ shape. IsWitnessFileAnswer shape.tables witness a) (λ fault. a ≡ answer Tables (shape_fault_line fault))
+IsShapeAnswer decls witness a = MatchResult (shape_of decls) (λ shape. IsWitnessFileAnswer shape witness a) (λ fault. a ≡ answer Tables (shape_fault_line fault))
 
--- the text has a fault, or its declarations are resolved
-abbrev pub IsTextAnswer : List ℕ → List ℕ → Answer → Type 0
-IsTextAnswer text witness a =
-    ((fault : TextFault) × IsFirstFault text fault × (a ≡ answer Tables (text_fault_line fault))) ⊎ ((decls : List Decl) × IsTablesText text decls × IsShapeAnswer decls witness a)
+-- the first fault of a text
+abbrev pub IsTextRefusal : List ℕ → Answer → Type 0
+IsTextRefusal text a = (fault : TextFault) × IsFirstFault text fault × (a ≡ answer Tables (text_fault_line fault))
 
--- the file of tables is too long, or its text is judged
+-- a text has a fault, or its declarations have such an answer
+abbrev pub IsTextAnswer : List ℕ → (List Decl → Answer → Type 0) → Answer → Type 0
+IsTextAnswer text Answers a = IsTextRefusal text a ⊎ ((decls : List Decl) × IsTablesText text decls × Answers decls a)
+
+-- a file of tables is too long, or its text is judged so
+abbrev pub OfTablesFile : List ℕ → Answer → Type 0 → Type 0
+OfTablesFile text a Judged = MatchBool (nat_lt max_tables_file (length text)) (a ≡ answer TooLong (too_long_line max_tables_file)) Judged
+
+abbrev pub IsTablesAnswer : List ℕ → (List Decl → Answer → Type 0) → Answer → Type 0
+IsTablesAnswer text Answers a = OfTablesFile text a (IsTextAnswer text Answers a)
+
+-- the declarations of a check are resolved
 abbrev pub IsCheckAnswer : List ℕ → List ℕ → Answer → Type 0
-IsCheckAnswer text witness a = MatchBool (nat_lt max_tables_file (length text)) (a ≡ answer TooLong (too_long_line max_tables_file)) (IsTextAnswer text witness a)
+IsCheckAnswer text witness a = IsTablesAnswer text (λ decls a. IsShapeAnswer decls witness a) a
+
+abbrev pub IsPrinted : List Decl → Answer → Type 0
+IsPrinted decls a = a ≡ answer Yes (canonical decls)
+
+-- those of a print are printed
+abbrev pub IsPrintAnswer : List ℕ → Answer → Type 0
+IsPrintAnswer text a = IsTablesAnswer text IsPrinted a
 
 -- the answer that is due to words, by the bytes of the files that they name
 abbrev pub IsDue : Option Command → ShelfState → Answer → Type 0
 IsDue None shelf a = a ≡ answer Words words_line
 IsDue (Some (check tables witness)) shelf a = IsCheckAnswer (bytes_of shelf tables) (bytes_of shelf witness) a
+IsDue (Some (print tables)) shelf a = IsPrintAnswer (bytes_of shelf tables) a
 IsDue (Some help) shelf a = a ≡ answer Yes help_text
 IsDue (Some version) shelf a = a ≡ answer Yes version_line
 
@@ -73,6 +91,7 @@ IsDue (Some version) shelf a = a ≡ answer Yes version_line
 abbrev pub fileless_answer : Option Command → Option Answer
 fileless_answer None = Some (answer Words words_line)
 fileless_answer (Some (check tables witness)) = None
+fileless_answer (Some (print tables)) = None
 fileless_answer (Some help) = Some (answer Yes help_text)
 fileless_answer (Some version) = Some (answer Yes version_line)
 
@@ -89,7 +108,13 @@ is_outside Witness = false
 is_outside TooLarge = false
 is_outside TooLong = false
 
--- a text of tables within its limit, that has declarations with a shape
+-- a text of tables within its limit, that has declarations
+pub record HasDecls (text : List ℕ) : Type 0 where
+  pub decls : List Decl
+  pub within : length text ≤ max_tables_file
+  pub text_is : IsTablesText text decls
+
+-- such a text whose declarations have a shape
 pub record HasShape (text : List ℕ) : Type 0 where
   pub decls : List Decl
   pub parts : ShapeParts
@@ -107,14 +132,14 @@ pub record HasWitness (text witness : List ℕ) : Type 0 where
 -- a witness that gives values which satisfy the tables
 pub record IsSatisfied (text witness : List ℕ) : Type 0 where
   pub read : HasWitness text witness
-  pub satisfies : Satisfies read.shape.parts.tables read.given.rows (filling_of read.shape.parts.tables read.given)
+  pub satisfies : Satisfies read.shape.parts read.given.rows (filling_of read.shape.parts.tables read.given)
 
 -- a witness that gives values which violate the tables, and the line that says where first
 pub record IsViolated (text witness line : List ℕ) : Type 0 where
   pub read : HasWitness text witness
   pub violation : Violation
-  pub first : IsFirstViolation read.shape.parts.tables read.given.rows (filling_of read.shape.parts.tables read.given) violation
-  pub line_is : line ≡ violation_line first.table first.constraint violation
+  pub first : IsFirstViolation read.shape.parts read.given.rows (filling_of read.shape.parts.tables read.given) violation
+  pub line_is : line ≡ violation_line read.shape.parts read.given.rows (filling_of read.shape.parts.tables read.given) violation first
 
 -- a read of a file has failed that is due: where the files are told, what the command reads before it is accepted
 abbrev pub DueReadFailed : ShelfState → ShelfState → List ℕ → Type 0 → Type 0
@@ -128,5 +153,6 @@ CheckReadsFailed old new tables witness = ReadFailed old new tables ⊎ DueReadF
 abbrev pub ReadsFailed : Option Command → ShelfState → ShelfState → Type 0
 ReadsFailed None old new = ⊥
 ReadsFailed (Some (check tables witness)) old new = CheckReadsFailed old new tables witness
+ReadsFailed (Some (print tables)) old new = ReadFailed old new tables
 ReadsFailed (Some help) old new = ⊥
 ReadsFailed (Some version) old new = ⊥

@@ -3,11 +3,12 @@
 
 mod answer;
 mod check;
-pub mod judge;
 pub mod limits;
 mod lines;
+mod print;
 mod running;
 mod status;
+mod tables;
 mod words;
 
 pub use running::run;

@@ -1,15 +1,18 @@
 //! The lines that are printed.
 
-ghost use Rattle.std.specs.Prelude.{◌≡◌, ◌++◌, ◌<◌, IfOk, OnOk, codes, false};
+ghost use Rattle.std.specs.Prelude.{◌≡◌, ◌++◌, ◌<◌, ℕ, List, map, IfOk, OnOk, codes, false};
 ghost use Rattle.std.specs.Fmt.{decimal, digit_glyph};
-ghost use Rattle.m3_tool.specs.Judging.{seen};
-ghost use Rattle.m3_tool.specs.Lines.{hex, place_name, shape_fault_line, shape_kind_name, text_fault_line, text_kind_name, too_large_line, too_long_line, violated, violation_line, witness_fault_line, witness_kind_name};
+ghost use Rattle.table_text.specs.Canonical.{joined};
+ghost use Rattle.table_shape.specs.Filling.{Filling};
+ghost use Rattle.table_shape.specs.Satisfies.{IsFirstViolation};
+ghost use Rattle.m3_judge.specs.Judging.{violation_of};
+ghost use Rattle.m3_tool.specs.Lines.{hex, nonzero_line, unequal_line, value_text, place_name, shape_fault_line, shape_kind_name, text_fault_line, text_kind_name, too_large_line, too_long_line, violated, violation_line, witness_fault_line, witness_kind_name};
 
-use crate::judge::Violation;
+use m3_judge::Violation;
 use std::alloc::{AllocError, Global};
-use table_shape::{ConstraintShape, ShapeFault, ShapeKind, TableShape};
+use table_shape::{ChannelShape, ConstraintShape, Shape, ShapeFault, ShapeKind, TableShape};
 use table_text::{TextFault, TextKind};
-use tower_field::Tower;
+use tower_field::{B128, Tower};
 use witness_reader::{WitnessFault, WitnessKind, WitnessPlace};
 
 /// The digit of a number below 16.
@@ -42,7 +45,7 @@ fn push(line: &mut Vec<u8>, text: &[u8]) -> Result<(), AllocError>
     line.extend_from_slice(text)
 }
 
-fn push_decimal(alloc: Global, line: &mut Vec<u8>, n: u32) -> Result<(), AllocError>
+fn push_decimal(alloc: Global, line: &mut Vec<u8>, n: u64) -> Result<(), AllocError>
     ensures { OnOk result (line.new.items ≡ line.old.items ++ decimal n) }
 {
     let text = format!(in alloc; "{n}")?;
@@ -72,24 +75,116 @@ fn violated(
     Ok(line)
 }
 
-/// The line of a violation.
-pub fn violation_line(
+/// Where a constraint isn't 0.
+#[derive(Clone, Copy)]
+struct Place {
+    row: u32,
+    index: u32,
+    value: B128,
+}
+
+/// The line of a constraint that isn't 0.
+fn nonzero_line(
     alloc: Global,
     table: &TableShape,
     constraint: &ConstraintShape,
-    violation: Violation,
+    place: Place,
 ) -> Result<Vec<u8>, AllocError>
-    ensures { IfOk result (λ line. line.items ≡ violation_line table.now constraint.now (seen violation)) }
+    ensures { IfOk result (λ line. (t z : ℕ) → line.items ≡ nonzero_line table.now constraint.now (record { table = t; constraint = z; row = place.row; index = place.index; value = place.value })) }
 {
     let mut line = violated(alloc, table, constraint)?;
     push(&mut line, b", row ")?;
-    push_decimal(alloc, &mut line, violation.row)?;
+    push_decimal(alloc, &mut line, place.row.into())?;
     push(&mut line, b", index ")?;
-    push_decimal(alloc, &mut line, violation.index)?;
+    push_decimal(alloc, &mut line, place.index.into())?;
     push(&mut line, b", value 0x")?;
-    push_hex(alloc, &mut line, violation.value.number())?;
+    push_hex(alloc, &mut line, place.value.number())?;
     push(&mut line, b"\n")?;
     Ok(line)
+}
+
+/// Appends the number of an element.
+fn push_value(alloc: Global, line: &mut Vec<u8>, value: B128) -> Result<(), AllocError>
+    ensures { OnOk result (line.new.items ≡ line.old.items ++ value_text value) }
+{
+    push(line, b"0x")?;
+    push_hex(alloc, line, value.number())
+}
+
+/// Appends the numbers of a tuple, with commas between them.
+fn push_tuple(alloc: Global, line: &mut Vec<u8>, tuple: &[B128]) -> Result<(), AllocError>
+    ensures { OnOk result (line.new.items ≡ line.old.items ++ joined (codes ", ") (map value_text tuple.now)) }
+{
+    let Some((first, others)) = tuple.split_first() else {
+        return Ok(());
+    };
+    push_value(alloc, line, *first)?;
+    for value in others {
+        push(line, b", ")?;
+        push_value(alloc, line, *value)?;
+    }
+    Ok(())
+}
+
+/// The line of a tuple that is pushed and pulled unequally often.
+fn unequal_line(
+    alloc: Global,
+    channel: &ChannelShape,
+    tuple: &[B128],
+    pushed: u64,
+    pulled: u64,
+) -> Result<Vec<u8>, AllocError>
+    ensures { IfOk result (λ line. (c : ℕ) → line.items ≡ unequal_line channel.now (record { channel = c; tuple = tuple.now; pushed = pushed; pulled = pulled })) }
+{
+    let mut line = Vec::new(alloc);
+    push(&mut line, b"violated: channel ")?;
+    push(&mut line, channel.name.as_slice())?;
+    push(&mut line, b", tuple (")?;
+    push_tuple(alloc, &mut line, tuple)?;
+    push(&mut line, b"), pushed ")?;
+    push_decimal(alloc, &mut line, pushed)?;
+    push(&mut line, b", pulled ")?;
+    push_decimal(alloc, &mut line, pulled)?;
+    push(&mut line, b"\n")?;
+    Ok(line)
+}
+
+/// The line of a violation.
+pub fn violation_line(
+    alloc: Global,
+    shape: &Shape,
+    violation: &Violation,
+) -> Result<Vec<u8>, AllocError>
+    requires { (rows : List ℕ) × (filling : Filling) × IsFirstViolation shape.now rows filling (violation_of violation.now) }
+    ensures { IfOk result (λ line. (rows : List ℕ) (filling : Filling) (first : IsFirstViolation shape.now rows filling (violation_of violation.now)) → line.items ≡ violation_line shape.now rows filling (violation_of violation.now) first) }
+{
+    match violation {
+        Violation::Constraint {
+            table,
+            constraint,
+            row,
+            index,
+            value,
+        } => {
+            let table = &shape.tables()[*table as usize];
+            let constraint = &table.constraints.as_slice()[*constraint as usize];
+            let place = Place {
+                row: *row,
+                index: *index,
+                value: *value,
+            };
+            nonzero_line(alloc, table, constraint, place)
+        }
+        Violation::Channel {
+            channel,
+            tuple,
+            pushed,
+            pulled,
+        } => {
+            let channel = &shape.channels()[*channel as usize];
+            unequal_line(alloc, channel, tuple.as_slice(), *pushed, *pulled)
+        }
+    }
 }
 
 fn text_kind_name(kind: TextKind) -> &'static str
@@ -127,8 +222,10 @@ fn shape_kind_name(kind: ShapeKind) -> &'static str
         ShapeKind::OffsetOutOfRange => "OffsetOutOfRange",
         ShapeKind::RepeatedTerm => "RepeatedTerm",
         ShapeKind::DegreeTooHigh => "DegreeTooHigh",
+        ShapeKind::TupleWidth => "TupleWidth",
+        ShapeKind::NotOneValue => "NotOneValue",
+        ShapeKind::SelectorNotBit => "SelectorNotBit",
         ShapeKind::TooMany => "TooMany",
-        ShapeKind::NotBuilt => "NotBuilt",
     }
 }
 
@@ -189,14 +286,14 @@ fn push_table(alloc: Global, line: &mut Vec<u8>, table: u32) -> Result<(), Alloc
     ensures { OnOk result (line.new.items ≡ line.old.items ++ (codes " at table " ++ decimal table)) }
 {
     push(line, b" at table ")?;
-    push_decimal(alloc, line, table)
+    push_decimal(alloc, line, table.into())
 }
 
 fn push_column(alloc: Global, line: &mut Vec<u8>, column: u32) -> Result<(), AllocError>
     ensures { OnOk result (line.new.items ≡ line.old.items ++ (codes " column " ++ decimal column)) }
 {
     push(line, b" column ")?;
-    push_decimal(alloc, line, column)
+    push_decimal(alloc, line, column.into())
 }
 
 /// The line of columns that take too many bits.

@@ -4,21 +4,25 @@ ghost use Rattle.std.specs.Prelude.{◌≡◌, ◌≢◌, false, map, string_byt
 ghost use Rattle.byte_ends.specs.Counts.{Rose};
 ghost use Rattle.byte_ends.specs.Shelf.{ReadsOnly, SameReadFaults};
 ghost use Rattle.byte_ends.specs.Sink.{Puts};
-ghost use Rattle.m3_tool.specs.Answer.{IsAnswered, answer_of};
+ghost use Rattle.m3_tool.specs.Answer.{IsAnswered, Stops, answer_of};
 ghost use Rattle.m3_tool.specs.Command.{command_of};
 ghost use Rattle.m3_tool.specs.Lines.{help_text, no_memory_line, read_fault_line};
 ghost use Rattle.m3_tool.specs.Run.{ReadsFailed, answer, is_outside};
-ghost use Rattle.m3_tool.specs.Headline.{AnswersWords, IsUndisturbed, OnlyDue, PutsDue, PutsPart, SaysSatisfied, SaysViolated, SaysWhether};
+ghost use Rattle.m3_tool.specs.Headline.{AnswersWords, IsUndisturbed, OnlyDue, PutsDue, PutsPart, SaysPrinted, SaysSatisfied, SaysViolated, SaysWhether};
 
 use crate::answer::{Answer, fixed};
-use crate::check::{Stop, check};
+use crate::check::check;
+use crate::print::print;
 use crate::status::Status;
+use crate::tables::Stop;
 use crate::words::{Command, command_of};
 use byte_ends::{Shelf, Sink, WriteFault, put_whole};
 use std::alloc::Global;
 
 const HELP: &str = "bm3 check TABLES WITNESS
     Says whether a witness satisfies tables. Reads both files and writes none.
+bm3 print TABLES
+    Prints the canonical text of tables. Reads the file and writes none.
 bm3 --help
     Prints this text.
 bm3 --version
@@ -45,6 +49,17 @@ fn help() -> Answer
     fixed(Status::Yes, HELP)
 }
 
+/// The answer, or that of what stopped it.
+fn answer_or_stop(answered: Result<Answer, Stop>) -> Answer
+    ensures { Stops answered (answer_of result) }
+{
+    match answered {
+        Ok(answer) => answer,
+        Err(Stop::ReadFault) => fixed(Status::ReadFault, "read fault\n"),
+        Err(Stop::NoMemory) => fixed(Status::NoMemory, "no memory\n"),
+    }
+}
+
 /// The answer to words, which is to be put.
 fn answer_to<S: Shelf>(alloc: Global, words: &[String], shelf: &mut S) -> Answer
     ensures { IsAnswered (command_of (map string_bytes words.now)) (S.state shelf.old) (S.state shelf.new) (answer_of result) }
@@ -58,11 +73,8 @@ fn answer_to<S: Shelf>(alloc: Global, words: &[String], shelf: &mut S) -> Answer
                 tables_file,
                 witness_file,
             },
-        ) => match check(alloc, shelf, tables_file, witness_file) {
-            Ok(answer) => answer,
-            Err(Stop::ReadFault) => fixed(Status::ReadFault, "read fault\n"),
-            Err(Stop::NoMemory) => fixed(Status::NoMemory, "no memory\n"),
-        },
+        ) => answer_or_stop(check(alloc, shelf, tables_file, witness_file)),
+        Some(Command::Print { tables_file }) => answer_or_stop(print(alloc, shelf, tables_file)),
     }
 }
 
@@ -76,6 +88,9 @@ pub fn run<S: Shelf, W: Sink>(alloc: Global, words: &[String], shelf: &mut S, ou
     // first violation, where it doesn't.
     ensures satisfied { SaysSatisfied (command_of (map string_bytes words.now)) (S.state shelf.old) (W.state out.old) (W.state out.new) result }
     ensures violated { SaysViolated (command_of (map string_bytes words.now)) (S.state shelf.old) (W.state out.old) (W.state out.new) result }
+
+    // A print says Yes where the tables are read, and puts their canonical text.
+    ensures printed { SaysPrinted (command_of (map string_bytes words.now)) (S.state shelf.old) (W.state out.old) (W.state out.new) result }
 
     // Where the files are told, each status but those of the outside is the one that is due, with
     // its line, and none but those comes where another is due.
@@ -113,5 +128,7 @@ pub fn run<S: Shelf, W: Sink>(alloc: Global, words: &[String], shelf: &mut S, ou
     }
 }
 
+#[cfg(test)]
+mod channel_tests;
 #[cfg(test)]
 mod tests;

@@ -11,6 +11,9 @@ pub(crate) enum Command<'a> {
         tables_file: &'a str,
         witness_file: &'a str,
     },
+    Print {
+        tables_file: &'a str,
+    },
     Help,
     Version,
 }
@@ -34,6 +37,9 @@ pub(crate) fn command_of(words: &[String]) -> Option<Command<'_>>
 {
     match words {
         [word] => command_of_word(word.as_str()),
+        [word, tables] if word.as_str() == "print" => Some(Command::Print {
+            tables_file: tables.as_str(),
+        }),
         [word, tables, witness] if word.as_str() == "check" => Some(Command::Check {
             tables_file: tables.as_str(),
             witness_file: witness.as_str(),

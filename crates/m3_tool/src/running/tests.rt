@@ -6,11 +6,11 @@ use std::alloc::AllocError;
 use std::process::Abort;
 use std::test::Fail;
 
-struct Case {
-    tables: &'static str,
-    witness: &'static str,
-    status: Status,
-    text: &'static str,
+pub(super) struct Case {
+    pub tables: &'static str,
+    pub witness: &'static str,
+    pub status: Status,
+    pub text: &'static str,
 }
 
 const BITS: &str = "table t { column a : b1; zero z : a*a + a; }";
@@ -418,7 +418,7 @@ static CHECKS: [Case; 65] = [
 ];
 
 /// Runs these words over these files, in pieces of some bytes, and compares the end.
-fn runs(
+pub(super) fn runs(
     rt: &(impl Abort + AllocGlobal),
     words: &[&str],
     shelf: &mut MemShelf,
@@ -436,22 +436,22 @@ fn runs(
     Ok(())
 }
 
-#[test]
-fn checks(rt: HostRuntime) -> Result<(), Fail> {
+/// Runs a check over each of these files.
+pub(super) fn checks_of(rt: &(impl Abort + AllocGlobal), cases: &[Case]) -> Result<(), Fail> {
     let alloc = rt.alloc();
-    for case in &CHECKS {
+    for case in cases {
         let mut shelf = MemShelf::new(alloc, 5, Vec::new(alloc));
         shelf.put_file("T", case.tables.as_bytes())?;
         shelf.put_file("W", case.witness.as_bytes())?;
-        runs(
-            &rt,
-            &["check", "T", "W"],
-            &mut shelf,
-            case.status,
-            case.text,
-        )?;
+        let words = ["check", "T", "W"];
+        runs(rt, &words, &mut shelf, case.status, case.text)?;
     }
     Ok(())
+}
+
+#[test]
+fn checks(rt: HostRuntime) -> Result<(), Fail> {
+    checks_of(&rt, CHECKS.as_slice())
 }
 
 #[test]
@@ -461,6 +461,16 @@ fn words_and_missing_files(rt: HostRuntime) -> Result<(), Fail> {
     shelf.put_file("T", BITS.as_bytes())?;
     runs(&rt, &[], &mut shelf, Status::Words, "words\n")?;
     runs(&rt, &["check", "T"], &mut shelf, Status::Words, "words\n")?;
+    runs(&rt, &["print"], &mut shelf, Status::Words, "words\n")?;
+    let printed = "table t {\n  column a : b1;\n  zero z : a * a + a;\n}\n";
+    runs(&rt, &["print", "T"], &mut shelf, Status::Yes, printed)?;
+    runs(
+        &rt,
+        &["print", "U"],
+        &mut shelf,
+        Status::ReadFault,
+        "read fault\n",
+    )?;
     runs(
         &rt,
         &["check", "T", "T", "T"],

@@ -1,14 +1,23 @@
-use Rattle.std.proofs.Common.{◌∙◌, ap}
+use Rattle.std.proofs.Common.{◌≡◌, sym, ◌∙◌, ap, subst, inr}
 use Rattle.table_shape.specs.Parts.{ShapeParts}
-use Rattle.m3_tool.proofs.AnswerSteps.{violated_answer}
+use Rattle.table_shape.specs.Satisfies.{IsFirstViolation}
+use Rattle.m3_judge.specs.Judging.{violation_of}
 use Rattle.m3_tool.specs.declared.status.Status.TheVariants.{No}
-use Rattle.m3_tool.specs.Judging.{seen}
+use Rattle.m3_tool.specs.Lines.{violation_line}
 use Rattle.m3_tool.specs.Run.{answer}
 use Rattle.m3_tool.proofs.check.judged.Goals as goal
 
-pub returns-clause-judged : goal.returns-clause-judged
-returns-clause-judged c =
-    let at = rw (c.tables.ensures.all ∙ ap (λ (s : ShapeParts). s.tables) c.shape.ensures) at c.index-tables-violation.is in
-    let in_table = rw c.as_slice.ensures at c.index-as_slice-violation.is in
-    violated_answer c.args.store.now.shape.tables c.args.store.now.rows c.args.store.now.filling (seen c.in-Violated.violation) c.in-Violated.ensures c.index-tables-violation.result c.index-as_slice-violation.result at in_table _
-    (c.made.ensures ∙ ap (answer No) c.in_ok-line.ensures)
+pub violation_line-requires : goal.violation_line-requires
+violation_line-requires c =
+    let store = c.args.store.now in
+    let first : IsFirstViolation store.shape store.rows store.filling (violation_of c.in-Ok-Violated.violation) = rw c.in-Ok-Violated.field-0-is at c.in-Ok-Violated.ensures in
+    (store.rows, store.filling, subst (λ (s : ShapeParts). IsFirstViolation s store.rows store.filling (violation_of c.in-Ok-Violated.violation)) (sym c.shape.ensures) first)
+
+pub returns-in_ok-line-in-Ok-Violated-clause-judged : goal.returns-in_ok-line-in-Ok-Violated-clause-judged
+returns-in_ok-line-in-Ok-Violated-clause-judged c =
+    let store = c.args.store.now in
+    let v = violation_of c.in-Ok-Violated.violation in
+    let line = c.in_ok-line-in-Ok-Violated.line.items in
+    let first : IsFirstViolation store.shape store.rows store.filling v = rw c.in-Ok-Violated.field-0-is at c.in-Ok-Violated.ensures in
+    let told = subst (λ (s : ShapeParts). (f : IsFirstViolation s store.rows store.filling v) → line ≡ violation_line s store.rows store.filling v f) c.shape.ensures (λ f. c.in_ok-line-in-Ok-Violated.ensures store.rows store.filling f) first in
+    inr (v, first, c.made.ensures ∙ ap (answer No) told)

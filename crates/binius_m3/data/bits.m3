@@ -1,1 +1,0 @@
-table t { column a : b1; zero z : a*a + a; }

@@ -1,0 +1,14 @@
+//! Whether values satisfy tables: every constraint is 0, and every channel is in balance.
+#![tactic(auto)]
+
+mod constraints;
+mod laws;
+mod no_memory;
+mod sorted;
+mod source;
+mod unequal;
+mod verdict;
+
+pub use laws::orders_tell_multisets;
+pub use no_memory::NoMemory;
+pub use verdict::{Verdict, Violation, judge};
