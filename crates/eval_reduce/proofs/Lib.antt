@@ -6,3 +6,4 @@ pub mod LinearLaws
 pub mod PackLaws
 pub mod VirtualSteps
 pub mod ShiftLaws
+pub mod FilledForms

@@ -1,5 +1,5 @@
 -- Steps of the walks of virtual columns, and of their provers.
-use Rattle.std.proofs.Common.{◌≡◌, ℕ, zero, suc, ◌+◌, ◌*◌, ◌-◌, ◌/◌, ◌%◌, ◌^◌, ◌<◌, ◌≤◌, ◌⊎◌, inl, inr, Bool, true, false, List, [], ◌∷◌, ◌++◌, length, get_or, Option, Some, None, refl, sym, ◌∙◌, ap, subst, arith, append_assoc}
+use Rattle.std.proofs.Common.{◌≡◌, ℕ, zero, suc, ◌+◌, ◌*◌, ◌-◌, ◌/◌, ◌%◌, ◌^◌, ◌<◌, ◌≤◌, ◌⊎◌, inl, inr, Bool, true, false, List, [], ◌∷◌, ◌++◌, length, get_or, Option, Some, None, unwrap_or, refl, sym, ◌∙◌, ap, subst, arith, append_assoc}
 use Rattle.std.proofs.lemmas.Nat.{pow_pos, pow-add}
 use Rattle.std.proofs.lemmas.Bool.{cases_lt}
 use Rattle.std.proofs.lemmas.List.{get_or_default, length_push}
@@ -18,7 +18,7 @@ use Rattle.table_shape.specs.declared.shape.ShapeTerm.{ShapeTerm}
 use Rattle.table_shape.proofs.Bits.{power_bound}
 use Rattle.eval_reduce.specs.declared.packing.Packing.{Packing}
 use Rattle.eval_reduce.specs.declared.projection.Projection.{Projection}
-use Rattle.eval_reduce.specs.Virtual.{IsThere}
+use Rattle.eval_reduce.specs.Virtual.{IsThere, table_of}
 use Rattle.eval_reduce.specs.Linear.{Combination, linear_entries, linear_of, term_claims}
 use Rattle.eval_reduce.specs.Pack.{PackStage, pack_entries, pack_of}
 use Rattle.eval_reduce.specs.Project.{ProjectTakes, project_at}
@@ -152,3 +152,7 @@ is_listed f (Some claim) true draws v n None h = refl
 is_listed f None told draws v n (Some c) h = absurd h
 is_listed f (Some claim) false draws v n (Some c) h = absurd h
 is_listed f (Some claim) true draws v n (Some c) h = absurd h
+
+-- ---- lists that are there are as long as they should be
+pub there_long : (tables : List ColumnTable) (t c n : ℕ) → IsThere tables t c n → length (table_of tables t c) ≡ n
+there_long tables t c n h = ap (λ (o : Option (List ℕ)). length (unwrap_or o [])) h.1 ∙ h.2

@@ -7,3 +7,4 @@ pub mod Linear
 pub mod Pack
 pub mod Provers
 pub mod Shift
+pub mod Filled

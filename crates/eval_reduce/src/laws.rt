@@ -1,6 +1,7 @@
 //! What holds of every merge, and of every virtual column.
 
 ghost use Rattle.sumcheck.specs.Machine.{Lawful};
+ghost use Rattle.eval_reduce.specs.Filled.{FillingsHaveForms};
 ghost use Rattle.eval_reduce.specs.Linear.{linear_step};
 ghost use Rattle.eval_reduce.specs.Merge.{merge};
 ghost use Rattle.eval_reduce.specs.Pack.{pack, VectorsAreCounted};
@@ -35,4 +36,10 @@ pub fn packings_keep_truth()
 pub fn shiftings_keep_truth()
     ensures lawful { Lawful shift }
     ensures same { ShiftsKeepTruth }
+{}
+
+/// In a filling of a shape, virtual columns have the values that the walks of claims on them ask for.
+/// Does nothing.
+pub fn fillings_have_forms()
+    ensures { FillingsHaveForms }
 {}

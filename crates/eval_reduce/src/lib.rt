@@ -27,8 +27,8 @@ mod virtual_column;
 pub use combination::Combination;
 pub use joined::Joined;
 pub use laws::{
-    combinations_keep_truth, merges_keep_truth, packings_keep_truth, projections_keep_truth,
-    shiftings_keep_truth,
+    combinations_keep_truth, fillings_have_forms, merges_keep_truth, packings_keep_truth,
+    projections_keep_truth, shiftings_keep_truth,
 };
 pub use linear_prover::LinearProver;
 pub use linear_step::LinearStep;

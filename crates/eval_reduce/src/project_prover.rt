@@ -57,7 +57,21 @@ impl ProjectProver {
         ensures new { IfOk result (λ prover. IsNewProjector prover) }
     {
         let projection = Projection::of(shape, table, column, rows);
-        let Some(source) = tables.get(table, projection.source) else {
+        ProjectProver::of(alloc, projection, tables)
+    }
+
+    /// The prover for a projected column, from the list of its source.
+    pub(crate) fn of(
+        alloc: Global,
+        projection: Projection,
+        tables: &ColumnTables,
+    ) -> Result<ProjectProver, NoMemory>
+        requires { IsThere tables.now projection.table projection.source (2 ^ (projection.log + projection.vars)) }
+        ensures form { IfOk result (λ prover. prover.projection ≡ projection) }
+        ensures source { IfOk result (λ prover. prover.source.items ≡ table_of tables.now projection.table projection.source) }
+        ensures new { IfOk result (λ prover. IsNewProjector prover) }
+    {
+        let Some(source) = tables.get(projection.table, projection.source) else {
             unreachable!();
         };
         Ok(ProjectProver {

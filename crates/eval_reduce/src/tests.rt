@@ -1,15 +1,25 @@
 //! The walk beside its prover.
 
-ghost use Rattle.std.specs.Prelude.{◌≡◌, length, IfOk};
+ghost use Rattle.std.specs.Prelude.{◌≡◌, ◌∷◌, [], length, IfOk};
+ghost use Rattle.eval_reduce.specs.Virtual.{IsThere};
 
-use crate::{MergeProver, MergeWalk, NoMemory};
+use crate::{
+    Combination, LinearProver, LinearStep, MergeProver, MergeWalk, NoMemory, PackProver, PackWalk,
+    Packing, ProjectProver, ProjectStep, Projection, ShiftWalk,
+};
 use cube_mle::mle_at;
+use sqlite_items::at;
 use std::alloc::Global;
-use sumcheck::ColumnClaim;
+use std::test::Fail;
+use sumcheck::{ColumnClaim, ColumnTables};
+use table_shape::{ColumnKind, Shape, ShapeForm, ShapeTerm, resolve};
+use table_text::read_tables;
 use tower_field::{B128, Tower, Values};
 use walk_example::meet;
 
-fn element(n: u64) -> B128 {
+fn element(n: u64) -> B128
+    ensures { result ≡ n }
+{
     B128::join(n as u128, 0)
 }
 
@@ -65,6 +75,190 @@ fn walk_against_prover(rt: HostRuntime) -> Result<(), NoMemory> {
     for column in [[1000, 1077, 1154, 1231], [0, 0, 0, 0], [1, 2, 4, 8]] {
         assert_eq!(rt; merge_three(alloc, column, 0)?, (6, true));
         assert_eq!(rt; merge_three(alloc, column, 1)?, (1, false));
+    }
+    Ok(())
+}
+
+/// Two columns of four values, of numbers 1 and 2.
+fn two_columns(alloc: Global) -> Result<ColumnTables, NoMemory>
+    ensures { IfOk result (λ tables. IsThere tables 0 1 4 × IsThere tables 0 2 4) }
+{
+    let first = [1, 2, 4, 8].map(element);
+    let second = [0xd3, 1, 1077, 0].map(element);
+    let mut tables = ColumnTables::new(alloc);
+    tables.add(0, 1, Vec::from_slice(alloc, &first)?)?;
+    tables.add(0, 2, Vec::from_slice(alloc, &second)?)?;
+    Ok(tables)
+}
+
+/// A claim at (40, 90) on column 3.
+fn claim_of(alloc: Global, value: B128) -> Result<ColumnClaim, NoMemory>
+    ensures { IfOk result (λ c. (c.table ≡ 0) × ((c.column ≡ 3) × (length c.point ≡ 2))) }
+{
+    let point = [element(40), element(90)];
+    Ok(ColumnClaim {
+        table: 0,
+        column: 3,
+        point: Values::from_vec(Vec::from_slice(alloc, &point)?),
+        value,
+    })
+}
+
+/// 2 · a + 3 · b.
+fn two_terms(alloc: Global) -> Result<Vec<ShapeTerm>, NoMemory>
+    ensures { IfOk result (λ terms. terms.items ≡ record { coefficient = 2; column = 1 } ∷ record { coefficient = 3; column = 2 } ∷ []) }
+{
+    let mut terms = Vec::new(alloc);
+    let first = ShapeTerm {
+        coefficient: element(2),
+        column: 1,
+    };
+    let second = ShapeTerm {
+        coefficient: element(3),
+        column: 2,
+    };
+    if terms.push(first).is_err() || terms.push(second).is_err() {
+        return Err(NoMemory);
+    }
+    Ok(terms)
+}
+
+/// The column 7 + 2 · a + 3 · b, on which a value is claimed.
+fn linear_meets(alloc: Global, value: u64) -> Result<(u32, bool), NoMemory> {
+    let tables = two_columns(alloc)?;
+    let terms = two_terms(alloc)?;
+    let combination = Combination {
+        table: 0,
+        column: 3,
+        vars: 2,
+        constant: element(7),
+        terms,
+    };
+    let claim = claim_of(alloc, element(value))?;
+    let mut prover = LinearProver::of(alloc, &combination, &tables)?;
+    prover.enter(&claim);
+    let mut walk = LinearStep::of(alloc, combination)?;
+    walk.enter(&claim);
+    let mut values = Vec::new(alloc);
+    Ok(meet(&mut walk, &mut prover, 20, &mut values)?)
+}
+
+#[test]
+fn linear_against_prover(rt: HostRuntime) -> Result<(), NoMemory> {
+    let alloc = rt.alloc();
+    assert_eq!(rt; linear_meets(alloc, 0xd123)?, (1, true));
+    assert_eq!(rt; linear_meets(alloc, 1)?, (0, false));
+    Ok(())
+}
+
+/// A source of eight values of two bits, of number 1.
+fn one_source(alloc: Global) -> Result<ColumnTables, NoMemory>
+    ensures { IfOk result (λ tables. IsThere tables 0 1 8) }
+{
+    let source = [1, 2, 3, 0, 2, 2, 1, 3].map(element);
+    let mut tables = ColumnTables::new(alloc);
+    tables.add(0, 1, Vec::from_slice(alloc, &source)?)?;
+    Ok(tables)
+}
+
+/// Each two values of the source as one, on which a value is claimed.
+fn pack_meets(alloc: Global, value: u64) -> Result<(u32, bool), NoMemory> {
+    let tables = one_source(alloc)?;
+    let packing = Packing {
+        table: 0,
+        column: 3,
+        vars: 2,
+        source: 1,
+        level: 1,
+        log: 1,
+    };
+    let claim = claim_of(alloc, element(value))?;
+    let mut prover = PackProver::of(alloc, &packing, &tables)?;
+    prover.enter(&claim);
+    let mut walk = PackWalk::of(alloc, packing)?;
+    walk.enter(&claim);
+    let mut values = Vec::new(alloc);
+    Ok(meet(&mut walk, &mut prover, 20, &mut values)?)
+}
+
+#[test]
+fn pack_against_prover(rt: HostRuntime) -> Result<(), NoMemory> {
+    let alloc = rt.alloc();
+    assert_eq!(rt; pack_meets(alloc, 0x9a)?, (2, true));
+    assert_eq!(rt; pack_meets(alloc, 1)?, (0, false));
+    Ok(())
+}
+
+/// The second of each two values of the source: the true value of the claim that is left.
+fn projected(alloc: Global) -> Result<u128, NoMemory> {
+    let tables = one_source(alloc)?;
+    let projection = Projection {
+        table: 0,
+        column: 3,
+        vars: 2,
+        source: 1,
+        log: 1,
+        index: 1,
+    };
+    let claim = claim_of(alloc, element(1))?;
+    let mut step = ProjectStep::of(alloc, projection)?;
+    step.enter(&claim);
+    let mut prover = ProjectProver::of(alloc, projection, &tables)?;
+    prover.enter(&claim);
+    let own = prover.claim(0);
+    let left = step.claim(0);
+    if left.column != 1
+        || left.value != B128::ONE
+        || left.point.as_slice() != [element(1), element(40), element(90)].as_slice()
+        || own.point.as_slice() != left.point.as_slice()
+    {
+        return Ok(0);
+    }
+    Ok(own.value.number())
+}
+
+#[test]
+fn a_projected_column(rt: HostRuntime) -> Result<(), NoMemory> {
+    assert_eq!(rt; projected(rt.alloc())?, 0x9d);
+    Ok(())
+}
+
+/// The walk of column `c` of the first table begins where it is a virtual one.
+fn begins(alloc: Global, shape: &Shape, c: u32) -> Result<bool, Fail> {
+    let Some(table) = at(shape.tables(), 0) else {
+        return Ok(false);
+    };
+    let Some(column) = at(table.columns.as_slice(), c as usize) else {
+        return Ok(false);
+    };
+    match &column.kind {
+        ColumnKind::Committed => return Ok(false),
+        ColumnKind::Virtual(ShapeForm::Project { .. }) => {
+            let _walk = ProjectStep::begin(alloc, shape, 0, c, 1)?;
+        }
+        ColumnKind::Virtual(ShapeForm::Pack { .. }) => {
+            let _walk = PackWalk::begin(alloc, shape, 0, c, 1)?;
+        }
+        ColumnKind::Virtual(ShapeForm::Linear { .. }) => {
+            let _walk = LinearStep::begin(alloc, shape, 0, c, 1)?;
+        }
+        ColumnKind::Virtual(_) => {
+            let _walk = ShiftWalk::begin(alloc, shape, 0, c, 1)?;
+        }
+    }
+    Ok(true)
+}
+
+const FORMS: &[u8] =
+    b"table t { column a : b1 x 2; virtual p = project(a, 1, 1); virtual q = pack(a, 1); virtual l = linear(1 + a); virtual s = rol(a, 1, 1); }";
+
+#[test]
+fn walks_of_a_shape_begin(rt: HostRuntime) -> Result<(), Fail> {
+    let alloc = rt.alloc();
+    let shape = resolve(alloc, &read_tables(alloc, FORMS)?)?;
+    assert!(rt; !begins(alloc, &shape, 0)?);
+    for c in 1..5 {
+        assert!(rt; begins(alloc, &shape, c)?);
     }
     Ok(())
 }
