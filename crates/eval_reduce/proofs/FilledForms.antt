@@ -1,5 +1,5 @@
 -- In a filling of a shape virtual columns have the lists of their forms.
-use Rattle.std.proofs.Common.{◌≡◌, ◌∙◌, ℕ, zero, suc, ◌+◌, ◌*◌, ◌^◌, ◌<◌, ◌≤◌, List, [], ◌∷◌, length, map, take, get_or, slice_index, bit_xor, Option, Some, None, refl, sym, ap, subst, arith}
+use Rattle.std.proofs.Common.{◌≡◌, ◌∙◌, ℕ, zero, suc, ◌+◌, ◌^◌, ◌≤◌, List, [], ◌∷◌, length, map, take, get_or, slice_index, bit_xor, Option, Some, None, refl, sym, ap, subst, arith}
 use Rattle.std.specs.List.{slice_get}
 use Rattle.std.specs.Option.{IsSomeAnd, option_and_then}
 use Rattle.std.proofs.lemmas.Option.{option_and_then_some}
@@ -7,12 +7,10 @@ use Rattle.cube_laws.specs.Sums.{tabulate}
 use Rattle.cube_laws.specs.SumClaim.{AllLong, row}
 use Rattle.cube_laws.proofs.Weights.{tabulate-same}
 use Rattle.cube_laws.proofs.Tabulate.{entries}
-use Rattle.column_laws.specs.Columns.{linear, linear_value, packed, projected}
+use Rattle.column_laws.specs.Columns.{linear, linear_value, packed}
 use Rattle.tower_laws.specs.Tower.{mul}
 use Rattle.tower_laws.specs.Lists.{sum_all}
 use Rattle.tower_laws.proofs.Field.{identity, field_terms}
-use Rattle.shift_laws.specs.Shifts.{shifted}
-use Rattle.cube_mle.specs.Moving.{shift_of}
 use Rattle.cube_mle.specs.declared.shift.ShiftKind.TheVariants.{Shl, Shr, Rol}
 use Rattle.sumcheck.specs.declared.column_claim.ColumnClaim.{ColumnClaim}
 use Rattle.table_shape.specs.declared.shape.ShapeTerm.{ShapeTerm}
@@ -24,8 +22,8 @@ use Rattle.table_shape.specs.declared.shape.ColumnShape.{ColumnShape}
 use Rattle.table_shape.specs.declared.shape.TableShape.{TableShape}
 use Rattle.table_shape.specs.Size.{ceil_log}
 use Rattle.table_shape.specs.Forms.{form_value, level_at}
-use Rattle.table_shape.specs.Filling.{Filling, HasValues, IsColumn, IsFilling, values_of}
-use Rattle.table_shape.specs.Fits.{IsFormOf, IsPackOf, IsProjectOf, IsShiftOf, HasKind, ShapeFits}
+use Rattle.table_shape.specs.Filling.{Filling, HasValues, IsFilling, values_of}
+use Rattle.table_shape.specs.Fits.{IsFormOf, HasKind, ShapeFits}
 use Rattle.table_shape.specs.Parts.{ShapeParts}
 use Rattle.eval_reduce.specs.declared.packing.Packing.{Packing}
 use Rattle.eval_reduce.specs.declared.projection.Projection.{Projection}
@@ -35,7 +33,7 @@ use Rattle.eval_reduce.specs.Linear.{Combination, IsLinear, coefficients, combin
 use Rattle.eval_reduce.specs.Pack.{IsPacked, packing, packing_of}
 use Rattle.eval_reduce.specs.Shift.{IsShifted, shifting, shifting_of}
 use Rattle.eval_reduce.specs.Project.{IsProjected, projection, projection_of}
-use Rattle.eval_reduce.specs.Filled.{FillingsHaveForms, HasForms}
+use Rattle.eval_reduce.specs.Filled.{FillingsHaveForms}
 
 within_taken : {X : Type 0} (n : ℕ) (xs : List X) (k : ℕ) (x : X) → slice_get (take n xs) k ≡ Some x → slice_get xs k ≡ Some x
 within_taken zero [] k x e = absurd (cc)

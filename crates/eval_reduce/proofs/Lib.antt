@@ -7,3 +7,4 @@ pub mod PackLaws
 pub mod VirtualSteps
 pub mod ShiftLaws
 pub mod FilledForms
+pub mod ShiftSteps

@@ -1,5 +1,5 @@
 -- A claim on a shifted column keeps its truth.
-use Rattle.std.proofs.Common.{◌≡◌, ◌∙◌, ◌==◌, cond, ℕ, ◌+◌, ◌-◌, ◌*◌, ◌^◌, ◌≤◌, List, [], ◌∷◌, ◌++◌, take, drop, length, slice_index, Option, Some, None, refl, sym, ap, subst, arith, length-append, length-take, length-drop, eq-eqb}
+use Rattle.std.proofs.Common.{◌≡◌, ◌∙◌, cond, ℕ, ◌+◌, ◌*◌, ◌^◌, ◌≤◌, List, [], ◌∷◌, ◌++◌, take, drop, length, slice_index, Option, Some, None, refl, sym, ap, subst, arith, length-append, length-take, length-drop, eq-eqb}
 use Rattle.std.proofs.lemmas.List.{take-append-drop}
 use Rattle.std.proofs.lemmas.Nat.{pow-add}
 use Rattle.tower_laws.specs.Tower.{mul}
@@ -13,14 +13,13 @@ use Rattle.poly_forms.specs.declared.draw_kind.DrawKind.{DrawKind}
 use Rattle.sumcheck.specs.declared.column_claim.ColumnClaim.{ColumnClaim}
 use Rattle.sumcheck.specs.declared.entry.Entry.{Entry}
 use Rattle.sumcheck.specs.declared.entry.Entry.TheVariants.{Message, Draw}
-use Rattle.sumcheck.specs.Column.{ColumnFits, ColumnHolds}
 use Rattle.sumcheck.specs.Machine.{Filling, Lawful, AtMessage, AtDraw, AwaitsDraw, RoundIsClaimed}
 use Rattle.sumcheck.specs.Rounds.{Rounds, DrawIsDue}
 use Rattle.sumcheck.specs.Summing.{LawfulSumming, KeepsTruth, adding, closed}
 use Rattle.sumcheck.proofs.Lawful.{draw_due, keeps_truth}
 use Rattle.eval_reduce.specs.declared.shifting.Shifting.{Shifting}
 use Rattle.eval_reduce.specs.Virtual.{IsOn}
-use Rattle.eval_reduce.specs.Shift.{IsShifted, Shift, Shifted, ShiftFits, ShiftHolds, ShiftsKeepTruth, high, low, shift, shift_entries, shift_round, shift_walk_of, shifted_sum, source_of, stated_sum, summed, the_sum, waiting}
+use Rattle.eval_reduce.specs.Shift.{IsShifted, Shift, Shifted, ShiftsKeepTruth, high, low, shift, shift_entries, shift_round, shift_walk_of, shifted_sum, source_of, summed, the_sum, waiting}
 
 one_value : (v : List ℕ) → length v ≡ 1 → v ≡ slice_index v 0 ∷ []
 one_value [] l = absurd (omega arith)

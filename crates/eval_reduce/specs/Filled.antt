@@ -1,8 +1,6 @@
 -- A filling of a shape gives virtual columns the values of their forms.
 -- Source: docs/REDUCTIONS.md, "Virtual columns".
 use Rattle.std.specs.Prelude.{◌≡◌, ℕ, List, slice_index, Some}
-use Rattle.column_laws.specs.Columns.{linear}
-use Rattle.cube_laws.specs.SumClaim.{AllLong}
 use Rattle.sumcheck.specs.declared.column_claim.ColumnClaim.{ColumnClaim}
 use Rattle.table_shape.specs.Filling.{Filling, IsFilling, values_of}
 use Rattle.table_shape.specs.Fits.{ShapeFits}

@@ -8,3 +8,4 @@ pub mod Pack
 pub mod Provers
 pub mod Shift
 pub mod Filled
+pub mod ShiftProver

@@ -1,6 +1,6 @@
 -- A claim on a shifted column is a sum over a block of its source.
 -- Source: docs/REDUCTIONS.md, "Shifted columns".
-use Rattle.std.specs.Prelude.{◌≡◌, ◌≤◌, ◌<◌, ◌==◌, ◌^◌, ◌↔◌, cond, ℕ, List, [], ◌∷◌, ◌++◌, take, drop, length, slice_index, Option, None, Some, option_and_then}
+use Rattle.std.specs.Prelude.{◌≡◌, ◌≤◌, ◌==◌, ◌^◌, ◌↔◌, cond, ℕ, List, [], ◌∷◌, ◌++◌, take, drop, length, slice_index, Option, None, Some, option_and_then}
 use Rattle.tower_laws.specs.Tower.{mul}
 use Rattle.cube_laws.specs.Extension.{extension}
 use Rattle.cube_laws.specs.SumClaim.{Sum}
@@ -19,7 +19,7 @@ use Rattle.sumcheck.specs.Rounds.{Rounds, sum_claim}
 use Rattle.sumcheck.specs.Summing.{Summing, Summed, adding, closed, summed_entries, summed_refusal, summed_message, summed_draw, summed_pending, summed_round, SummedFits, SummedHolds, summed_honest}
 use Rattle.table_shape.specs.declared.shape.ShapeForm.TheVariants as form
 use Rattle.table_shape.specs.declared.shape.ColumnKind.{ColumnKind}
-use Rattle.table_shape.specs.declared.shape.ColumnKind.TheVariants.{Committed, Virtual}
+use Rattle.table_shape.specs.declared.shape.ColumnKind.TheVariants.{Virtual}
 use Rattle.table_shape.specs.declared.shape.ColumnShape.{ColumnShape}
 use Rattle.table_shape.specs.declared.shape.TableShape.{TableShape}
 use Rattle.eval_reduce.specs.declared.shifting.Shifting.{Shifting}

@@ -19,12 +19,7 @@ use table_shape::Shape;
 use tower_field::B128;
 
 /// Of each `size` values the one of this index.
-pub(crate) fn every(
-    alloc: Global,
-    values: &[B128],
-    size: usize,
-    index: usize,
-) -> Result<Vec<B128>, NoMemory>
+fn every(alloc: Global, values: &[B128], size: usize, index: usize) -> Result<Vec<B128>, NoMemory>
     requires within { index < size }
     requires small { size ≤ 2 ^ 32 }
     requires blocks { (n : ℕ) × (length values.now ≡ n * size) }
@@ -42,7 +37,7 @@ pub(crate) fn every(
 }
 
 /// Appends the extension of a column at each corner of its lowest variables, and then a point.
-fn append_corners(
+pub(crate) fn append_corners(
     alloc: Global,
     column: &[B128],
     log: u32,

@@ -5,9 +5,9 @@ ghost use Rattle.eval_reduce.specs.Virtual.{IsThere};
 
 use crate::{
     Combination, LinearProver, LinearStep, MergeProver, MergeWalk, NoMemory, PackProver, PackWalk,
-    Packing, ProjectProver, ProjectStep, Projection, ShiftWalk,
+    Packing, ProjectProver, ProjectStep, Projection, ShiftProver, ShiftWalk, Shifting,
 };
-use cube_mle::mle_at;
+use cube_mle::{ShiftKind, mle_at};
 use sqlite_items::at;
 use std::alloc::Global;
 use std::test::Fail;
@@ -220,6 +220,56 @@ fn projected(alloc: Global) -> Result<u128, NoMemory> {
 #[test]
 fn a_projected_column(rt: HostRuntime) -> Result<(), NoMemory> {
     assert_eq!(rt; projected(rt.alloc())?, 0x9d);
+    Ok(())
+}
+
+/// The source moved within blocks of four values, on which a value is claimed at (40, 90, 7).
+fn shift_meets(
+    alloc: Global,
+    kind: ShiftKind,
+    offset: u32,
+    value: u64,
+) -> Result<(u32, bool), NoMemory> {
+    let tables = one_source(alloc)?;
+    let shifting = Shifting {
+        table: 0,
+        column: 3,
+        vars: 3,
+        source: 1,
+        kind,
+        block: 2,
+        offset: offset % 4,
+    };
+    let point = [element(40), element(90), element(7)];
+    let claim = ColumnClaim {
+        table: 0,
+        column: 3,
+        point: Values::from_vec(Vec::from_slice(alloc, &point)?),
+        value: element(value),
+    };
+    let mut prover = ShiftProver::of(alloc, shifting, &tables)?;
+    prover.enter(&claim);
+    let mut walk = ShiftWalk::of(alloc, shifting)?;
+    walk.enter(&claim);
+    let mut values = Vec::new(alloc);
+    Ok(meet(&mut walk, &mut prover, 20, &mut values)?)
+}
+
+#[test]
+fn shift_against_prover(rt: HostRuntime) -> Result<(), NoMemory> {
+    let alloc = rt.alloc();
+    for (kind, offset, value) in [
+        (ShiftKind::Shl, 0, 0xcb),
+        (ShiftKind::Shl, 1, 0xe5),
+        (ShiftKind::Shl, 3, 0xcf),
+        (ShiftKind::Shr, 1, 0x9e),
+        (ShiftKind::Shr, 3, 0x57),
+        (ShiftKind::Rol, 1, 0xb2),
+        (ShiftKind::Rol, 3, 0x51),
+    ] {
+        assert_eq!(rt; shift_meets(alloc, kind, offset, value)?, (5, true));
+        assert_eq!(rt; shift_meets(alloc, kind, offset, value + 1)?, (0, false));
+    }
     Ok(())
 }
 

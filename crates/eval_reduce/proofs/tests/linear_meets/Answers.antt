@@ -1,8 +1,7 @@
-use Rattle.std.proofs.Common.{◌≡◌, ℕ, List, [], ◌∷◌, ◌^◌, length, refl, sym, ◌∙◌, ap, subst}
+use Rattle.std.proofs.Common.{◌≡◌, ℕ, [], ◌∷◌, ◌^◌, refl, sym, ◌∙◌, ap, subst}
 use Rattle.cube_laws.specs.SumClaim.{AllLong}
 use Rattle.sumcheck.specs.Machine.{Filling}
-use Rattle.table_shape.specs.declared.shape.ShapeTerm.{ShapeTerm}
-use Rattle.eval_reduce.specs.Linear.{Combination, Linear, state_linear, stated}
+use Rattle.eval_reduce.specs.Linear.{Combination, state_linear, stated}
 use Rattle.eval_reduce.specs.Provers.{FollowsLinear, given_lists}
 use Rattle.eval_reduce.specs.Virtual.{table_of}
 use Rattle.eval_reduce.proofs.VirtualSteps.{there_long}

@@ -1,7 +1,7 @@
-use Rattle.std.proofs.Common.{◌≡◌, ◌∷◌, ◌+◌, ◌^◌, ℕ, length, refl, sym, ◌∙◌, ap, subst}
+use Rattle.std.proofs.Common.{◌≡◌, ◌+◌, ◌^◌, ℕ, length, refl, sym, ◌∙◌, ap, subst}
 use Rattle.sumcheck.specs.Machine.{Filling}
 use Rattle.eval_reduce.specs.declared.packing.Packing.{Packing}
-use Rattle.eval_reduce.specs.Pack.{Pack, state_pack, stated}
+use Rattle.eval_reduce.specs.Pack.{state_pack, stated}
 use Rattle.eval_reduce.specs.Provers.{FollowsPack}
 use Rattle.eval_reduce.specs.Virtual.{table_of}
 use Rattle.eval_reduce.proofs.VirtualSteps.{there_long}

@@ -1,4 +1,4 @@
-use Rattle.std.proofs.Common.{◌≡◌, ◌+◌, ◌≤◌, ◌^◌, ◌++◌, [], length, vec_capacity, Vec, Global, sym, ◌∙◌, ap, arith, length-append}
+use Rattle.std.proofs.Common.{◌≡◌, ◌+◌, ◌≤◌, ◌^◌, ◌++◌, length, vec_capacity, Vec, Global, ◌∙◌, ap, arith, length-append}
 use Rattle.std.proofs.lemmas.Grind.{common_steps}
 use Rattle.tower_field.specs.declared.level7.B128.{B128}
 use Rattle.cube_laws.specs.Extension.{bits_of}
