@@ -217,8 +217,54 @@ fn projected(alloc: Global) -> Result<u128, NoMemory> {
     Ok(own.value.number())
 }
 
+/// A column of the two bits 0 and 1 in one row, of number 0.
+fn one_row(alloc: Global) -> Result<ColumnTables, NoMemory>
+    ensures { IfOk result (λ tables. IsThere tables 0 0 2) }
+{
+    let bits = [element(0), element(1)];
+    let mut tables = ColumnTables::new(alloc);
+    tables.add(0, 0, Vec::from_slice(alloc, &bits)?)?;
+    Ok(tables)
+}
+
+/// The second bit of the row is claimed to be 1, at the point of no coordinate: whether the step and the
+/// prover leave that of the source at (1).
+fn second_bit(alloc: Global) -> Result<bool, NoMemory> {
+    let tables = one_row(alloc)?;
+    let projection = Projection {
+        table: 0,
+        column: 1,
+        vars: 0,
+        source: 0,
+        log: 1,
+        index: 1,
+    };
+    let claim = ColumnClaim {
+        table: 0,
+        column: 1,
+        point: Values::new(alloc),
+        value: B128::ONE,
+    };
+    let mut step = ProjectStep::of(alloc, projection)?;
+    step.enter(&claim);
+    let mut prover = ProjectProver::of(alloc, projection, &tables)?;
+    prover.enter(&claim);
+    let own = prover.claim(0);
+    let left = step.claim(0);
+    let at = [B128::ONE];
+    Ok(
+        left.column == 0
+            && left.value == B128::ONE
+            && left.point.as_slice() == at.as_slice()
+            && own.column == 0
+            && own.value == B128::ONE
+            && own.point.as_slice() == at.as_slice(),
+    )
+}
+
 #[test]
 fn a_projected_column(rt: HostRuntime) -> Result<(), NoMemory> {
+    assert!(rt; second_bit(rt.alloc())?);
     assert_eq!(rt; projected(rt.alloc())?, 0x9d);
     Ok(())
 }
