@@ -1,4 +1,4 @@
--- Channels, boundaries and tables added one after the other.
+-- Items, channels, boundaries and tables added one after the other.
 use Rattle.std.proofs.Common.{◌≡◌, ℕ, suc, ◌<◌, ◌≤◌, ◌+◌, List, [], ◌∷◌, ◌++◌, length, drop, get_or, Result, Ok, refl, sym, ◌∙◌, ap, subst, arith, drop-cons, add-one, false}
 use Rattle.std.specs.List.{list_any}
 use Rattle.std.specs.Str.{bytes_eq}
@@ -6,21 +6,44 @@ use Rattle.sha2.specs.Sha256.{sha256}
 use Rattle.sha2.proofs.Facts256.{length-sha256}
 use Rattle.table_text.specs.Canonical.{canonical}
 use Rattle.table_text.specs.Limits.{max_declarations}
-use Rattle.table_text.specs.Valid.{LevelsFit, declarations}
+use Rattle.table_text.specs.Valid.{ItemLevelsFit, LevelsFit, declarations}
 use Rattle.table_text.specs.declared.decl.Side.{Side}
 use Rattle.table_text.specs.declared.decl.Item.{Item}
+use Rattle.table_text.specs.declared.decl.Item.TheVariants as item
 use Rattle.table_text.specs.declared.decl.Decl.{Decl}
 use Rattle.table_text.specs.declared.decl.Decl.TheVariants.{Channel, Boundary, Table}
 use Rattle.table_shape.specs.declared.fault.ShapeFault.{ShapeFault}
+use Rattle.table_shape.specs.declared.fault.ShapeStop.{ShapeStop}
 use Rattle.table_shape.specs.declared.shape.ChannelShape.{ChannelShape}
 use Rattle.table_shape.specs.declared.shape.BoundaryShape.{BoundaryShape}
 use Rattle.table_shape.specs.declared.shape.TableShape.{TableShape}
 use Rattle.table_shape.specs.Parts.{ShapeParts}
 use Rattle.table_shape.specs.Fits.{TableFits, FlushesFit, ShapeFits}
-use Rattle.table_shape.specs.Shape.{with_channel, with_boundary, begun_table, with_items, with_decls, shape_of}
+use Rattle.table_shape.specs.Shape.{with_channel, with_boundary, begun_table, with_item, with_items, with_decls, shape_of}
+use Rattle.table_shape.specs.ShapeGives.{Refuses}
+use Rattle.table_shape.specs.AndThen.{◌>>=◌}
 use Rattle.table_shape.proofs.AndThenSteps.{bind_is}
 use Rattle.table_shape.proofs.FitsSteps.{begun, begun_fits, with_tables, channel_pushed, boundary_pushed, table_pushed}
+use Rattle.table_shape.proofs.VirtualSteps.{Refuses-bind}
 use Rattle.table_shape.proofs.Passed.{channel_passed, boundary_passed, table_passed, items_keep}
+
+-- ---- an item more
+
+later_levels : (i : Item) (items : List Item) → ItemLevelsFit (i ∷ items) → ItemLevelsFit items
+later_levels (item.Column name level log_values) items h = h.2
+later_levels (item.Virtual name f) items h = h
+later_levels (item.Zero name expr) items h = h
+later_levels (item.Flush side channel columns selector) items h = h
+
+-- what is left after the item at a place
+pub item_added : (i k : ℕ) (items : List Item) (d here : Item) (channels : List ChannelShape) (old new : TableShape) (all : Result TableShape ShapeFault) → i < length items → get_or items i d ≡ here → ItemLevelsFit (drop i items)
+    → with_items k channels (drop i items) old ≡ all → with_item k channels here old ≡ Ok new → ItemLevelsFit (drop (i + 1) items) × (with_items (k + 1) channels (drop (i + 1) items) new ≡ all)
+item_added i k items d here channels old new all below at levels rest h =
+    let e : drop i items ≡ here ∷ drop (i + 1) items = drop-cons items i d below ∙ ap (λ (x : Item). x ∷ drop (suc i) items) at ∙ rw add-one refl in
+    let next = bind_is (with_item k channels here old) new (with_items (k + 1) channels (drop (i + 1) items)) h in
+    (later_levels here (drop (i + 1) items) (subst ItemLevelsFit e levels), sym next ∙ sym (ap (λ (left : List Item). with_items k channels left old) e) ∙ rest)
+
+-- ---- the shape
 
 -- what is kept while a shape grows: k is the number of the next declaration, of those that are left
 pub record Adds (k : ℕ) (decls : List Decl) (shape : ShapeParts) (all : Result ShapeParts ShapeFault) : Type 0 where
@@ -106,6 +129,14 @@ adds_table k n name items decls shape tables begun table all adds h i e pushed o
       fits = table_fits k name items shape begun table h i adds.fits one;
       rest = with_decls-table k n name items decls shape begun table h i numbered ∙ adds.rest;
     })
+
+-- a table whose items are refused
+pub table_refused : (k : ℕ) (name : List ℕ) (items : List Item) (decls : List Decl) (shape : ShapeParts) (begun : TableShape) (stop : ShapeStop) (all : Result ShapeParts ShapeFault)
+    → Adds k (Table name items ∷ decls) shape all → begun_table k name shape.tables ≡ Ok begun → Refuses stop (with_items (k + 1) shape.channels items begun) → Refuses stop all
+table_refused k name items decls shape begun stop all adds h refused =
+    let after : TableShape → Result ShapeParts ShapeFault = λ table. with_decls (k + 1 + length items) decls (with_tables shape (table ∷ [])) in
+    let e : (with_items (k + 1) shape.channels items begun >>= after) ≡ with_decls k (Table name items ∷ decls) shape = rw h refl in
+    subst (Refuses stop) (e ∙ adds.rest) (Refuses-bind stop (with_items (k + 1) shape.channels items begun) after refused)
 
 -- ---- the declaration at a place
 

@@ -7,12 +7,11 @@ ghost use Rattle.table_shape.specs.Shape.{all_some, resolved, with_constraint};
 ghost use Rattle.table_shape.specs.ShapeGives.{Gives};
 ghost use Rattle.table_shape.specs.Value.{degree};
 
-use crate::copying::copied_name;
+use crate::draft::TableDraft;
 use crate::fault::{ShapeKind, ShapeStop, refused};
 use crate::limits::{MAX_CONSTRAINTS, MAX_DEGREE};
-use crate::lookup::{has_constraint, number_of};
 use crate::numbers::element;
-use crate::shape::{ColumnShape, ConstraintShape, ShapeExpr, ShapeExprs, TableShape};
+use crate::shape::{ShapeExpr, ShapeExprs};
 use crate::width::{has_width, width};
 use sqlite_items::Items;
 use std::alloc::{AllocError, Global};
@@ -23,17 +22,17 @@ use table_text::{Expr, Name};
 fn resolved(
     alloc: Global,
     expr: &Expr,
-    columns: &[ColumnShape],
+    table: &TableDraft<'_>,
 ) -> Result<Option<ShapeExpr>, AllocError>
-    requires { length columns.now ≤ max_columns }
-    ensures { IfOk result (λ found. found ≡ resolved columns.now expr.now) }
+    requires { length table.now.columns ≤ max_columns }
+    ensures { IfOk result (λ found. found ≡ resolved table.now.columns expr.now) }
 {
     match expr {
         Expr::Number(n) => Ok(Some(ShapeExpr::Number(element(*n)))),
-        Expr::Column(name) => Ok(number_of(name, columns).map(ShapeExpr::Column)),
-        Expr::Sum(parts) => Ok(all_resolved(alloc, parts.as_slice(), columns)?.map(ShapeExpr::Sum)),
+        Expr::Column(name) => Ok(table.number_of(name).map(ShapeExpr::Column)),
+        Expr::Sum(parts) => Ok(all_resolved(alloc, parts.as_slice(), table)?.map(ShapeExpr::Sum)),
         Expr::Product(parts) => {
-            Ok(all_resolved(alloc, parts.as_slice(), columns)?.map(ShapeExpr::Product))
+            Ok(all_resolved(alloc, parts.as_slice(), table)?.map(ShapeExpr::Product))
         }
     }
 }
@@ -42,14 +41,14 @@ fn resolved(
 fn all_resolved(
     alloc: Global,
     exprs: &[Expr],
-    columns: &[ColumnShape],
+    table: &TableDraft<'_>,
 ) -> Result<Option<ShapeExprs>, AllocError>
-    requires { length columns.now ≤ max_columns }
-    ensures { IfOk result (λ found. found ≡ all_some (map (resolved columns.now) exprs.now)) }
+    requires { length table.now.columns ≤ max_columns }
+    ensures { IfOk result (λ found. found ≡ all_some (map (resolved table.now.columns) exprs.now)) }
 {
     let mut found = Items::new(alloc);
     for expr in exprs {
-        match resolved(alloc, expr, columns)? {
+        match resolved(alloc, expr, table)? {
             Some(part) => found.push(part)?,
             None => return Ok(None),
         }
@@ -82,40 +81,34 @@ fn capped_degree(expr: &ShapeExpr) -> u32
 }
 
 /// The table with a constraint more, declared by `item`.
-pub(crate) fn with_constraint(
+pub(crate) fn with_constraint<'a>(
     alloc: Global,
     item: u32,
-    name: &Name,
+    name: &'a Name,
     expr: &Expr,
-    mut table: TableShape,
-) -> Result<TableShape, ShapeStop>
+    table: TableDraft<'a>,
+) -> Result<TableDraft<'a>, ShapeStop>
     requires { TableFits table }
-    ensures exact { Gives result (with_constraint item name.now expr.now table) }
+    ensures exact { Gives result (with_constraint item name.now expr.now table.entry) }
     ensures fits { IfOk result TableFits }
 {
-    if table.constraints.len() >= MAX_CONSTRAINTS {
+    if table.constraints().len() >= MAX_CONSTRAINTS {
         return refused(item, ShapeKind::TooMany);
     }
-    if has_constraint(name, table.constraints.as_slice()) {
+    if table.has_constraint(name) {
         return refused(item, ShapeKind::DoubleName);
     }
-    let Some(expr) = resolved(alloc, expr, table.columns.as_slice())? else {
+    let Some(expr) = resolved(alloc, expr, &table)? else {
         return refused(item, ShapeKind::UnknownName);
     };
-    let log_values = width(&expr, table.columns.as_slice());
-    if !has_width(&expr, table.columns.as_slice(), log_values) {
+    let columns = table.columns();
+    let log_values = width(&expr, columns);
+    if !has_width(&expr, columns, log_values) {
         return refused(item, ShapeKind::UnequalWidth);
     }
     let degree = capped_degree(&expr);
     if degree > MAX_DEGREE {
         return refused(item, ShapeKind::DegreeTooHigh);
     }
-    let name = copied_name(alloc, name)?;
-    table.constraints.push(ConstraintShape {
-        name,
-        log_values,
-        degree,
-        expr,
-    })?;
-    Ok(table)
+    Ok(table.add_constraint(alloc, name, log_values, degree, expr)?)
 }

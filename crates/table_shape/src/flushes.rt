@@ -8,12 +8,12 @@ ghost use Rattle.table_shape.specs.Shape.{all_some, is_selector, number_of_name,
 ghost use Rattle.table_shape.specs.ShapeGives.{Gives};
 ghost use Rattle.table_shape.specs.Width.{log_values_at};
 
-use crate::channels::width_at;
+use crate::channels::{Channels, width_at};
+use crate::draft::TableDraft;
 use crate::fault::{ShapeKind, ShapeStop, refused};
 use crate::levels::level_at;
 use crate::limits::MAX_FLUSHES;
-use crate::lookup::{channel_of, number_of};
-use crate::shape::{ChannelShape, ColumnShape, FlushShape, Numbers32, TableShape};
+use crate::shape::{ColumnShape, FlushShape, Numbers32};
 use crate::width::log_values_at;
 use sqlite_items::Items;
 use std::alloc::{AllocError, Global};
@@ -23,14 +23,14 @@ use table_text::{Name, Side};
 fn numbers_of(
     alloc: Global,
     names: &[Name],
-    columns: &[ColumnShape],
+    table: &TableDraft<'_>,
 ) -> Result<Option<Numbers32>, AllocError>
-    requires { length columns.now ≤ max_columns }
-    ensures { IfOk result (λ found. found ≡ all_some (map (λ name. number_of_name name columns.now) names.now)) }
+    requires { length table.now.columns ≤ max_columns }
+    ensures { IfOk result (λ found. found ≡ all_some (map (λ name. number_of_name name table.now.columns) names.now)) }
 {
     let mut found = Items::new(alloc);
     for name in names {
-        match number_of(name, columns) {
+        match table.number_of(name) {
             Some(column) => found.push(column)?,
             None => return Ok(None),
         }
@@ -39,13 +39,13 @@ fn numbers_of(
 }
 
 /// The number of a selector, if its name is known or there is no selector.
-fn resolved_selector(selector: &Option<Name>, columns: &[ColumnShape]) -> Option<Option<u32>>
-    requires { length columns.now ≤ max_columns }
-    ensures { result ≡ resolved_selector columns.now selector.now }
+fn resolved_selector(selector: &Option<Name>, table: &TableDraft<'_>) -> Option<Option<u32>>
+    requires { length table.now.columns ≤ max_columns }
+    ensures { result ≡ resolved_selector table.now.columns selector.now }
 {
     match selector {
         None => Some(None),
-        Some(name) => number_of(name, columns).map(Some),
+        Some(name) => table.number_of(name).map(Some),
     }
 }
 
@@ -56,20 +56,20 @@ fn resolved_flush(
     channel: &Name,
     names: &[Name],
     selector: &Option<Name>,
-    channels: &[ChannelShape],
-    columns: &[ColumnShape],
+    channels: &Channels<'_>,
+    table: &TableDraft<'_>,
 ) -> Result<Option<FlushShape>, AllocError>
     requires few_channels { length channels.now ≤ max_channels }
-    requires few_columns { length columns.now ≤ max_columns }
-    ensures { IfOk result (λ found. found ≡ resolved_flush channels.now columns.now side channel.now names.now selector.now) }
+    requires few_columns { length table.now.columns ≤ max_columns }
+    ensures { IfOk result (λ found. found ≡ resolved_flush channels.now table.now.columns side channel.now names.now selector.now) }
 {
-    let Some(channel) = channel_of(channel, channels) else {
+    let Some(channel) = channels.number_of(channel) else {
         return Ok(None);
     };
-    let Some(numbers) = numbers_of(alloc, names, columns)? else {
+    let Some(numbers) = numbers_of(alloc, names, table)? else {
         return Ok(None);
     };
-    let Some(selector) = resolved_selector(selector, columns) else {
+    let Some(selector) = resolved_selector(selector, table) else {
         return Ok(None);
     };
     Ok(Some(FlushShape {
@@ -105,30 +105,30 @@ fn is_selector(selector: Option<u32>, columns: &[ColumnShape]) -> bool
 }
 
 /// The table with a flush more, declared by `item` after these channels.
-pub(crate) fn with_flush(
+pub(crate) fn with_flush<'a>(
     alloc: Global,
     item: u32,
     side: Side,
     channel: &Name,
     names: &[Name],
     selector: &Option<Name>,
-    channels: &[ChannelShape],
-    mut table: TableShape,
-) -> Result<TableShape, ShapeStop>
+    channels: &Channels<'_>,
+    table: TableDraft<'a>,
+) -> Result<TableDraft<'a>, ShapeStop>
     requires few { length channels.now ≤ max_channels }
     requires fits { TableFits table }
-    ensures exact { Gives result (with_flush item channels.now side channel.now names.now selector.now table) }
+    ensures exact { Gives result (with_flush item channels.now side channel.now names.now selector.now table.entry) }
     ensures fits { IfOk result TableFits }
 {
-    if table.flushes.len() >= MAX_FLUSHES {
+    if table.flushes().len() >= MAX_FLUSHES {
         return refused(item, ShapeKind::TooMany);
     }
-    let columns = table.columns.as_slice();
-    let Some(flush) = resolved_flush(alloc, side, channel, names, selector, channels, columns)?
+    let Some(flush) = resolved_flush(alloc, side, channel, names, selector, channels, &table)?
     else {
         return refused(item, ShapeKind::UnknownName);
     };
-    if flush.columns.len() != width_at(channels, flush.channel) as usize {
+    let columns = table.columns();
+    if flush.columns.len() != width_at(channels.as_slice(), flush.channel) as usize {
         return refused(item, ShapeKind::TupleWidth);
     }
     if !have_one_value(flush.columns.as_slice(), columns) {
@@ -137,6 +137,5 @@ pub(crate) fn with_flush(
     if !is_selector(flush.selector, columns) {
         return refused(item, ShapeKind::SelectorNotBit);
     }
-    table.flushes.push(flush)?;
-    Ok(table)
+    Ok(table.add_flush(flush)?)
 }

@@ -11,13 +11,12 @@ ghost use Rattle.table_shape.specs.ShapeGives.{Gives};
 ghost use Rattle.table_shape.specs.Width.{log_values_at, terms_width};
 ghost use Rattle.table_text.specs.declared.decl.VirtualForm.TheVariants as virtual;
 
-use crate::copying::copied_name;
+use crate::draft::TableDraft;
 use crate::fault::{ShapeKind, ShapeStop, refused};
 use crate::levels::{level_at, linear_level};
 use crate::limits::{MAX_COLUMNS, MAX_LEVEL, MAX_TERMS};
-use crate::lookup::{has_column, number_of};
 use crate::numbers::element;
-use crate::shape::{ColumnKind, ColumnShape, ShapeForm, ShapeTerm, ShapeTerms, TableShape};
+use crate::shape::{ColumnKind, ColumnShape, ShapeForm, ShapeTerm, ShapeTerms};
 use crate::width::log_values_at;
 use sqlite_items::Items;
 use std::alloc::{AllocError, Global};
@@ -55,16 +54,16 @@ fn place_of(
     name: &Name,
     block: u128,
     offset: u128,
-    columns: &[ColumnShape],
+    table: &TableDraft<'_>,
 ) -> Result<Place, ShapeStop>
-    requires few { length columns.now ≤ max_columns }
-    requires sized { AreSized columns.now }
-    ensures { Gives result (place_of item columns.now (number_of_name name.now columns.now) block offset) }
+    requires few { length table.now.columns ≤ max_columns }
+    requires sized { AreSized table.now.columns }
+    ensures { Gives result (place_of item table.now.columns (number_of_name name.now table.now.columns) block offset) }
 {
-    let Some(column) = number_of(name, columns) else {
+    let Some(column) = table.number_of(name) else {
         return refused(item, ShapeKind::UnknownName);
     };
-    if block > u128::from(log_values_at(columns, column)) {
+    if block > u128::from(log_values_at(table.columns(), column)) {
         return refused(item, ShapeKind::BlockTooLong);
     }
     let block = block as u32;
@@ -79,19 +78,15 @@ fn place_of(
 }
 
 /// Each `2 ^ log` values of the column of this name as one.
-fn packed(
-    item: u32,
-    name: &Name,
-    log: u128,
-    columns: &[ColumnShape],
-) -> Result<ShapeForm, ShapeStop>
-    requires few { length columns.now ≤ max_columns }
-    requires sized { AreSized columns.now }
-    ensures { Gives result (checked_form item columns.now (resolved_form columns.now (virtual.Pack name.now log))) }
+fn packed(item: u32, name: &Name, log: u128, table: &TableDraft<'_>) -> Result<ShapeForm, ShapeStop>
+    requires few { length table.now.columns ≤ max_columns }
+    requires sized { AreSized table.now.columns }
+    ensures { Gives result (checked_form item table.now.columns (resolved_form table.now.columns (virtual.Pack name.now log))) }
 {
-    let Some(column) = number_of(name, columns) else {
+    let Some(column) = table.number_of(name) else {
         return refused(item, ShapeKind::UnknownName);
     };
+    let columns = table.columns();
     if log > u128::from(log_values_at(columns, column)) {
         return refused(item, ShapeKind::BlockTooLong);
     }
@@ -106,14 +101,14 @@ fn packed(
 fn resolved_terms(
     alloc: Global,
     terms: &[Term],
-    columns: &[ColumnShape],
+    table: &TableDraft<'_>,
 ) -> Result<Option<ShapeTerms>, AllocError>
-    requires { length columns.now ≤ max_columns }
-    ensures { IfOk result (λ found. found ≡ all_some (map (resolved_term columns.now) terms.now)) }
+    requires { length table.now.columns ≤ max_columns }
+    ensures { IfOk result (λ found. found ≡ all_some (map (resolved_term table.now.columns) terms.now)) }
 {
     let mut found = Items::new(alloc);
     for term in terms {
-        let Some(column) = number_of(&term.column, columns) else {
+        let Some(column) = table.number_of(&term.column) else {
             return Ok(None);
         };
         found.push(ShapeTerm {
@@ -172,18 +167,19 @@ fn linear(
     item: u32,
     constant: u128,
     terms: &[Term],
-    columns: &[ColumnShape],
+    table: &TableDraft<'_>,
 ) -> Result<ShapeForm, ShapeStop>
-    requires few { length columns.now ≤ max_columns }
-    requires sized { AreSized columns.now }
-    ensures { Gives result (checked_form item columns.now (resolved_form columns.now (virtual.Linear constant terms.now))) }
+    requires few { length table.now.columns ≤ max_columns }
+    requires sized { AreSized table.now.columns }
+    ensures { Gives result (checked_form item table.now.columns (resolved_form table.now.columns (virtual.Linear constant terms.now))) }
 {
-    let Some(terms) = resolved_terms(alloc, terms, columns)? else {
+    let Some(terms) = resolved_terms(alloc, terms, table)? else {
         return refused(item, ShapeKind::UnknownName);
     };
     if repeats(terms.as_slice()) {
         return refused(item, ShapeKind::RepeatedTerm);
     }
+    let columns = table.columns();
     let log_values = terms_width(columns, terms.as_slice());
     if !have_width(columns, terms.as_slice(), log_values) {
         return refused(item, ShapeKind::UnequalWidth);
@@ -199,11 +195,11 @@ fn checked_form(
     alloc: Global,
     item: u32,
     form: &VirtualForm,
-    columns: &[ColumnShape],
+    table: &TableDraft<'_>,
 ) -> Result<ShapeForm, ShapeStop>
-    requires few { length columns.now ≤ max_columns }
-    requires sized { AreSized columns.now }
-    ensures { Gives result (checked_form item columns.now (resolved_form columns.now form.now)) }
+    requires few { length table.now.columns ≤ max_columns }
+    requires sized { AreSized table.now.columns }
+    ensures { Gives result (checked_form item table.now.columns (resolved_form table.now.columns form.now)) }
 {
     match form {
         VirtualForm::Shl {
@@ -215,7 +211,7 @@ fn checked_form(
                 column,
                 block,
                 offset,
-            } = place_of(item, column, *block, *offset, columns)?;
+            } = place_of(item, column, *block, *offset, table)?;
             Ok(ShapeForm::Shl {
                 column,
                 block,
@@ -231,7 +227,7 @@ fn checked_form(
                 column,
                 block,
                 offset,
-            } = place_of(item, column, *block, *offset, columns)?;
+            } = place_of(item, column, *block, *offset, table)?;
             Ok(ShapeForm::Shr {
                 column,
                 block,
@@ -247,24 +243,24 @@ fn checked_form(
                 column,
                 block,
                 offset,
-            } = place_of(item, column, *block, *offset, columns)?;
+            } = place_of(item, column, *block, *offset, table)?;
             Ok(ShapeForm::Rol {
                 column,
                 block,
                 offset,
             })
         }
-        VirtualForm::Pack { column, log } => packed(item, column, *log, columns),
+        VirtualForm::Pack { column, log } => packed(item, column, *log, table),
         VirtualForm::Project { column, log, index } => {
             let Place {
                 column,
                 block: log,
                 offset: index,
-            } = place_of(item, column, *log, *index, columns)?;
+            } = place_of(item, column, *log, *index, table)?;
             Ok(ShapeForm::Project { column, log, index })
         }
         VirtualForm::Linear { constant, terms } => {
-            linear(alloc, item, *constant, terms.as_slice(), columns)
+            linear(alloc, item, *constant, terms.as_slice(), table)
         }
     }
 }
@@ -307,32 +303,27 @@ fn form_log_values(form: &ShapeForm, columns: &[ColumnShape]) -> u32
 }
 
 /// The table with a virtual column more, declared by `item`.
-pub(crate) fn with_virtual(
+pub(crate) fn with_virtual<'a>(
     alloc: Global,
     item: u32,
-    name: &Name,
+    name: &'a Name,
     form: &VirtualForm,
-    mut table: TableShape,
-) -> Result<TableShape, ShapeStop>
+    table: TableDraft<'a>,
+) -> Result<TableDraft<'a>, ShapeStop>
     requires { TableFits table }
-    ensures exact { Gives result (with_virtual item name.now form.now table) }
+    ensures exact { Gives result (with_virtual item name.now form.now table.entry) }
     ensures fits { IfOk result TableFits }
 {
-    if table.columns.len() >= MAX_COLUMNS || has_many_terms(form) {
+    if table.columns().len() >= MAX_COLUMNS || has_many_terms(form) {
         return refused(item, ShapeKind::TooMany);
     }
-    if has_column(name, table.columns.as_slice()) {
+    if table.has_column(name) {
         return refused(item, ShapeKind::DoubleName);
     }
-    let form = checked_form(alloc, item, form, table.columns.as_slice())?;
-    let level = form_level(&form, table.columns.as_slice());
-    let log_values = form_log_values(&form, table.columns.as_slice());
-    let name = copied_name(alloc, name)?;
-    table.columns.push(ColumnShape {
-        name,
-        level,
-        log_values,
-        kind: ColumnKind::Virtual(form),
-    })?;
-    Ok(table)
+    let form = checked_form(alloc, item, form, &table)?;
+    let columns = table.columns();
+    let level = form_level(&form, columns);
+    let log_values = form_log_values(&form, columns);
+    let kind = ColumnKind::Virtual(form);
+    Ok(table.add_column(alloc, name, level, log_values, kind)?)
 }

@@ -4,6 +4,7 @@
 mod channels;
 mod constraints;
 mod copying;
+mod draft;
 mod fault;
 mod flushes;
 mod forms;
@@ -11,6 +12,7 @@ mod levels;
 mod limits;
 mod lookup;
 mod no_memory;
+mod numbering;
 mod numbers;
 mod resolving;
 mod shape;

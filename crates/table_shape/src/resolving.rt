@@ -11,63 +11,58 @@ ghost use Rattle.table_shape.specs.Shape.{begun_table, shape_of, with_column, wi
 ghost use Rattle.table_shape.specs.ShapeGives.{Gives};
 ghost use Rattle.table_shape.specs.ShapeMeaning.{IsShapedWhereMeant};
 
-use crate::channels::{with_boundary, with_channel};
+use crate::channels::{Channels, with_boundary, with_channel};
 use crate::constraints::with_constraint;
 use crate::copying::copied_name;
+use crate::draft::TableDraft;
 use crate::fault::{ShapeKind, ShapeStop, refused};
 use crate::flushes::with_flush;
 use crate::forms::with_virtual;
 use crate::limits::{MAX_COLUMNS, MAX_TABLES};
-use crate::lookup::{has_column, has_table};
-use crate::shape::{ChannelShape, ColumnKind, ColumnShape, Shape, TableShape};
+use crate::lookup::has_table;
+use crate::shape::{ColumnKind, Shape, TableShape};
 use sha2::{Digest, Sha256};
 use sqlite_items::Items;
 use std::alloc::Global;
 use table_text::{Decl, Item, Name, Tables, print_tables};
 
 /// The table with a committed column more, declared by `item`.
-fn with_column(
+fn with_column<'a>(
     alloc: Global,
     item: u32,
-    name: &Name,
+    name: &'a Name,
     level: u32,
     log_values: u32,
-    mut table: TableShape,
-) -> Result<TableShape, ShapeStop>
+    table: TableDraft<'a>,
+) -> Result<TableDraft<'a>, ShapeStop>
     requires fits { TableFits table }
     requires level { level ≤ max_level }
     requires log_values { log_values ≤ max_log_values }
-    ensures exact { Gives result (with_column item name.now level log_values table) }
+    ensures exact { Gives result (with_column item name.now level log_values table.entry) }
     ensures fits { IfOk result TableFits }
 {
-    if table.columns.len() >= MAX_COLUMNS {
+    if table.columns().len() >= MAX_COLUMNS {
         return refused(item, ShapeKind::TooMany);
     }
-    if has_column(name, table.columns.as_slice()) {
+    if table.has_column(name) {
         return refused(item, ShapeKind::DoubleName);
     }
-    let name = copied_name(alloc, name)?;
-    table.columns.push(ColumnShape {
-        name,
-        level,
-        log_values,
-        kind: ColumnKind::Committed,
-    })?;
-    Ok(table)
+    let kind = ColumnKind::Committed;
+    Ok(table.add_column(alloc, name, level, log_values, kind)?)
 }
 
 /// The table with what an item declares, whose number is `number`, after these channels.
-fn with_item(
+fn with_item<'a>(
     alloc: Global,
     number: u32,
-    item: &Item,
-    channels: &[ChannelShape],
-    table: TableShape,
-) -> Result<TableShape, ShapeStop>
+    item: &'a Item,
+    channels: &Channels<'_>,
+    table: TableDraft<'a>,
+) -> Result<TableDraft<'a>, ShapeStop>
     requires few { length channels.now ≤ max_channels }
     requires fits { TableFits table }
     requires levels { ItemLevelsFit (item.now ∷ []) }
-    ensures exact { Gives result (with_item number channels.now item.now table) }
+    ensures exact { Gives result (with_item number channels.now item.now table.entry) }
     ensures fits { IfOk result TableFits }
 {
     match item {
@@ -97,18 +92,18 @@ fn with_item(
 }
 
 /// The table with these items, the first of which has the number `first`, after these channels.
-fn with_items(
+fn with_items<'a>(
     alloc: Global,
     first: u32,
-    items: &[Item],
-    channels: &[ChannelShape],
-    mut table: TableShape,
-) -> Result<TableShape, ShapeStop>
+    items: &'a [Item],
+    channels: &Channels<'_>,
+    mut table: TableDraft<'a>,
+) -> Result<TableDraft<'a>, ShapeStop>
     requires few_channels { length channels.now ≤ max_channels }
     requires fits { TableFits table }
     requires levels { ItemLevelsFit items.now }
     requires few { first + length items.now < 2 ^ 32 }
-    ensures exact { Gives result (with_items first channels.now items.now table) }
+    ensures exact { Gives result (with_items first channels.now items.now table.entry) }
     ensures fits { IfOk result TableFits }
 {
     let mut number = first;
@@ -120,12 +115,12 @@ fn with_items(
 }
 
 /// A table of this name with nothing in it, declared by `item`.
-fn begun_table(
+fn begun_table<'a>(
     alloc: Global,
     item: u32,
     name: &Name,
     tables: &[TableShape],
-) -> Result<TableShape, ShapeStop>
+) -> Result<TableDraft<'a>, ShapeStop>
     ensures exact { Gives result (begun_table item name.now tables.now) }
     ensures fits { IfOk result TableFits }
 {
@@ -135,12 +130,7 @@ fn begun_table(
     if has_table(name, tables) {
         return refused(item, ShapeKind::DoubleName);
     }
-    Ok(TableShape {
-        name: copied_name(alloc, name)?,
-        columns: Items::new(alloc),
-        constraints: Items::new(alloc),
-        flushes: Items::new(alloc),
-    })
+    Ok(TableDraft::new(alloc, copied_name(alloc, name)?))
 }
 
 /// SHA-256 of the canonical text.
@@ -165,7 +155,7 @@ pub fn resolve(alloc: Global, tables: &Tables) -> Result<Shape, ShapeStop>
     ensures { Gives result (shape_of tables.now) }
 {
     let digest = digest_of(alloc, tables)?;
-    let mut channels = Items::new(alloc);
+    let mut channels = Channels::new(alloc);
     let mut boundaries = Items::new(alloc);
     let mut shapes = Items::new(alloc);
     let mut number = 0;
@@ -181,25 +171,18 @@ pub fn resolve(alloc: Global, tables: &Tables) -> Result<Shape, ShapeStop>
                 values,
             } => {
                 let values = values.as_slice();
-                let before = channels.as_slice();
                 boundaries = with_boundary(
-                    alloc, number, *side, channel, values, before, boundaries,
+                    alloc, number, *side, channel, values, &channels, boundaries,
                 )?;
                 number += 1;
             }
             Decl::Table { name, items } => {
                 let table = begun_table(alloc, number, name, shapes.as_slice())?;
-                let table = with_items(
-                    alloc,
-                    number + 1,
-                    items.as_slice(),
-                    channels.as_slice(),
-                    table,
-                )?;
-                shapes.push(table)?;
+                let table = with_items(alloc, number + 1, items.as_slice(), &channels, table)?;
+                shapes.push(table.into_table())?;
                 number += 1 + items.len() as u32;
             }
         }
     }
-    Ok(Shape::of(channels, boundaries, shapes, digest))
+    Ok(Shape::of(channels.into_shapes(), boundaries, shapes, digest))
 }

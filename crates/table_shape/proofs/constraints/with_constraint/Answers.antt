@@ -1,4 +1,4 @@
-use Rattle.std.proofs.Common.{◌≡◌, ◌≤◌, false, List, Some, Ok, subst, sym, ap, ◌∙◌, arith}
+use Rattle.std.proofs.Common.{◌≡◌, ◌≤◌, false, length, Some, Ok, refl, subst, sym, ap, ◌∙◌, arith}
 use Rattle.std.specs.List.{list_any}
 use Rattle.std.specs.Str.{bytes_eq}
 use Rattle.table_shape.specs.declared.shape.ColumnShape.{ColumnShape}
@@ -16,10 +16,10 @@ returns-then-not-has_width-clause-exact c =
     let table = c.args.table in
     let name = c.args.name.now in
     let expr = c.in-Some.expr in
-    let new : list_any (λ z. bytes_eq name z.name) table.constraints ≡ false = ap (λ (zs : List ConstraintShape). list_any (λ z. bytes_eq name z.name) zs) (sym c.as_slice.ensures) ∙ sym c.has_constraint.ensures ∙ c.if-has_constraint.false in
-    let known : resolved table.columns c.args.expr.now ≡ Some expr = ap (λ (columns : List ColumnShape). resolved columns c.args.expr.now) (sym c.as_slice-2.ensures) ∙ sym c.in_ok-expr.ensures ∙ c.in-Some.is in
-    let begins : Begins name c.args.expr.now table expr = record { room = omega (arith, c.len.ensures); new = new; known = known } in
-    let widths = widths_are table.columns c.as_slice-3.result.now c.as_slice-4.result.now expr c.width-log_values.result c.has_width.result c.as_slice-3.ensures c.width-log_values.ensures.value c.as_slice-4.ensures c.has_width.ensures in
+    let new : list_any (λ z. bytes_eq name z.name) table.constraints ≡ false = sym c.has_constraint.ensures ∙ c.if-has_constraint.false in
+    let known : resolved table.columns c.args.expr.now ≡ Some expr = sym c.in_ok-expr.ensures ∙ c.in-Some.is in
+    let begins : Begins name c.args.expr.now table expr = record { room = omega (arith, ap length c.constraints.ensures); new = new; known = known } in
+    let widths = widths_are table.columns c.columns-columns.result.now c.columns-columns.result.now expr c.width-log_values.result c.has_width.result c.columns-columns.ensures c.width-log_values.ensures.value c.columns-columns.ensures c.has_width.ensures in
     rw (c.refused-then-not-has_width.ensures) (unequal_due c.args.item name c.args.expr.now table expr begins (widths ∙ c.if-not-has_width.true))
 
 pub returns-then-degree-gt-MAX_DEGREE-clause-exact : goal.returns-then-degree-gt-MAX_DEGREE-clause-exact
@@ -27,10 +27,10 @@ returns-then-degree-gt-MAX_DEGREE-clause-exact c =
     let table = c.args.table in
     let name = c.args.name.now in
     let expr = c.in-Some.expr in
-    let new : list_any (λ z. bytes_eq name z.name) table.constraints ≡ false = ap (λ (zs : List ConstraintShape). list_any (λ z. bytes_eq name z.name) zs) (sym c.as_slice.ensures) ∙ sym c.has_constraint.ensures ∙ c.if-has_constraint.false in
-    let known : resolved table.columns c.args.expr.now ≡ Some expr = ap (λ (columns : List ColumnShape). resolved columns c.args.expr.now) (sym c.as_slice-2.ensures) ∙ sym c.in_ok-expr.ensures ∙ c.in-Some.is in
-    let begins : Begins name c.args.expr.now table expr = record { room = omega (arith, c.len.ensures); new = new; known = known } in
-    let widths = widths_are table.columns c.as_slice-3.result.now c.as_slice-4.result.now expr c.width-log_values.result c.has_width.result c.as_slice-3.ensures c.width-log_values.ensures.value c.as_slice-4.ensures c.has_width.ensures in
+    let new : list_any (λ z. bytes_eq name z.name) table.constraints ≡ false = sym c.has_constraint.ensures ∙ c.if-has_constraint.false in
+    let known : resolved table.columns c.args.expr.now ≡ Some expr = sym c.in_ok-expr.ensures ∙ c.in-Some.is in
+    let begins : Begins name c.args.expr.now table expr = record { room = omega (arith, ap length c.constraints.ensures); new = new; known = known } in
+    let widths = widths_are table.columns c.columns-columns.result.now c.columns-columns.result.now expr c.width-log_values.result c.has_width.result c.columns-columns.ensures c.width-log_values.ensures.value c.columns-columns.ensures c.has_width.ensures in
     rw (c.refused-then-degree-gt-MAX_DEGREE.ensures) (degree_due c.args.item name c.args.expr.now table expr begins (widths ∙ c.if-not-has_width.false) (omega (arith, c.capped_degree-degree.ensures)))
 
 pub returns-clause-exact : goal.returns-clause-exact
@@ -38,13 +38,13 @@ returns-clause-exact c =
     let table = c.args.table in
     let name = c.args.name.now in
     let expr = c.in-Some.expr in
-    let new : list_any (λ z. bytes_eq name z.name) table.constraints ≡ false = ap (λ (zs : List ConstraintShape). list_any (λ z. bytes_eq name z.name) zs) (sym c.as_slice.ensures) ∙ sym c.has_constraint.ensures ∙ c.if-has_constraint.false in
-    let known : resolved table.columns c.args.expr.now ≡ Some expr = ap (λ (columns : List ColumnShape). resolved columns c.args.expr.now) (sym c.as_slice-2.ensures) ∙ sym c.in_ok-expr.ensures ∙ c.in-Some.is in
-    let begins : Begins name c.args.expr.now table expr = record { room = omega (arith, c.len.ensures); new = new; known = known } in
-    let widths = widths_are table.columns c.as_slice-3.result.now c.as_slice-4.result.now expr c.width-log_values.result c.has_width.result c.as_slice-3.ensures c.width-log_values.ensures.value c.as_slice-4.ensures c.has_width.ensures in
+    let new : list_any (λ z. bytes_eq name z.name) table.constraints ≡ false = sym c.has_constraint.ensures ∙ c.if-has_constraint.false in
+    let known : resolved table.columns c.args.expr.now ≡ Some expr = sym c.in_ok-expr.ensures ∙ c.in-Some.is in
+    let begins : Begins name c.args.expr.now table expr = record { room = omega (arith, ap length c.constraints.ensures); new = new; known = known } in
+    let widths = widths_are table.columns c.columns-columns.result.now c.columns-columns.result.now expr c.width-log_values.result c.has_width.result c.columns-columns.ensures c.width-log_values.ensures.value c.columns-columns.ensures c.has_width.ensures in
     let degree_is : c.capped_degree-degree.result ≡ degree expr = omega (arith, c.capped_degree-degree.ensures) in
-    let made = constraint_is name c.in_ok-name.name table.columns c.as_slice-3.result.now expr c.width-log_values.result c.capped_degree-degree.result c.in_ok-name.ensures c.as_slice-3.ensures c.width-log_values.ensures.value degree_is in
-    let pushed = push_is table c.push.new.self _ (constraint name table.columns expr) c.in_ok-push.ensures.ok made in
+    let made = constraint_is name name table.columns c.columns-columns.result.now expr c.width-log_values.result c.capped_degree-degree.result refl c.columns-columns.ensures c.width-log_values.ensures.value degree_is in
+    let pushed = push_is table _ _ (constraint name table.columns expr) refl made ∙ sym c.in_ok-add_constraint.ensures in
     let low : degree expr ≤ 8 = omega (arith, degree_is) in
     passed_due c.args.item name c.args.expr.now table expr begins (widths ∙ c.if-not-has_width.false) low ∙ ap Ok pushed
 
@@ -53,13 +53,13 @@ returns-clause-fits c =
     let table = c.args.table in
     let name = c.args.name.now in
     let expr = c.in-Some.expr in
-    let new : list_any (λ z. bytes_eq name z.name) table.constraints ≡ false = ap (λ (zs : List ConstraintShape). list_any (λ z. bytes_eq name z.name) zs) (sym c.as_slice.ensures) ∙ sym c.has_constraint.ensures ∙ c.if-has_constraint.false in
-    let known : resolved table.columns c.args.expr.now ≡ Some expr = ap (λ (columns : List ColumnShape). resolved columns c.args.expr.now) (sym c.as_slice-2.ensures) ∙ sym c.in_ok-expr.ensures ∙ c.in-Some.is in
-    let begins : Begins name c.args.expr.now table expr = record { room = omega (arith, c.len.ensures); new = new; known = known } in
-    let widths = widths_are table.columns c.as_slice-3.result.now c.as_slice-4.result.now expr c.width-log_values.result c.has_width.result c.as_slice-3.ensures c.width-log_values.ensures.value c.as_slice-4.ensures c.has_width.ensures in
+    let new : list_any (λ z. bytes_eq name z.name) table.constraints ≡ false = sym c.has_constraint.ensures ∙ c.if-has_constraint.false in
+    let known : resolved table.columns c.args.expr.now ≡ Some expr = sym c.in_ok-expr.ensures ∙ c.in-Some.is in
+    let begins : Begins name c.args.expr.now table expr = record { room = omega (arith, ap length c.constraints.ensures); new = new; known = known } in
+    let widths = widths_are table.columns c.columns-columns.result.now c.columns-columns.result.now expr c.width-log_values.result c.has_width.result c.columns-columns.ensures c.width-log_values.ensures.value c.columns-columns.ensures c.has_width.ensures in
     let degree_is : c.capped_degree-degree.result ≡ degree expr = omega (arith, c.capped_degree-degree.ensures) in
-    let made = constraint_is name c.in_ok-name.name table.columns c.as_slice-3.result.now expr c.width-log_values.result c.capped_degree-degree.result c.in_ok-name.ensures c.as_slice-3.ensures c.width-log_values.ensures.value degree_is in
-    let pushed = push_is table c.push.new.self _ (constraint name table.columns expr) c.in_ok-push.ensures.ok made in
+    let made = constraint_is name name table.columns c.columns-columns.result.now expr c.width-log_values.result c.capped_degree-degree.result refl c.columns-columns.ensures c.width-log_values.ensures.value degree_is in
+    let pushed = push_is table _ _ (constraint name table.columns expr) refl made ∙ sym c.in_ok-add_constraint.ensures in
     let low : degree expr ≤ 8 = omega (arith, degree_is) in
     let wide : width table.columns expr ≤ 7 = omega (arith, c.width-log_values.ensures.bound, sym (ap (λ (z : ConstraintShape). z.log_values) made)) in
     subst TableFits pushed (constraint_pushed table (constraint name table.columns expr) c.requires (fits table.columns name expr wide (widths ∙ c.if-not-has_width.false) low) begins.room new)

@@ -5,4 +5,4 @@ use Rattle.table_shape.proofs.flushes.numbers_of.Given as goal
 
 abbrev pub invariant-loop-name : goal.invariant-loop-name
 invariant-loop-name l =
-    option_map (λ more. l.found ++ more) (all_some (map (λ name. number_of_name name l.columns) (drop l.name-index l.names))) ≡ all_some (map (λ name. number_of_name name l.columns) l.names)
+    option_map (λ more. l.found ++ more) (all_some (map (λ name. number_of_name name l.table.columns) (drop l.name-index l.names))) ≡ all_some (map (λ name. number_of_name name l.table.columns) l.names)
