@@ -1,0 +1,3 @@
+pub mod ZeroLaws
+pub mod FormLaws
+pub mod FirstLaws

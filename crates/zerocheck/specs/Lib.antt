@@ -1,0 +1,3 @@
+pub mod Group
+pub mod Zero
+pub mod First
