@@ -170,9 +170,9 @@ covered columns v zs h c n =
     place_filtered (some_names zs) c (tabulate (length columns) (λ k. k)) n (place_tabulated (length columns) c (λ k. k) (below_length columns c t.column t.is))
 
 -- the form of each constraint means its expression
-record Known (columns : List ColumnShape) (v : ℕ) (cs : List ℕ) (z : ConstraintShape) : Type 0 where
-  fits : Fitting columns v z
-  means : Means cs (form_of (form_on cs z.expr)) (λ f. expr_value f z.expr) (expr_degree z.expr)
+pub record Known (columns : List ColumnShape) (v : ℕ) (cs : List ℕ) (z : ConstraintShape) : Type 0 where
+  pub fits : Fitting columns v z
+  pub means : Means cs (form_of (form_on cs z.expr)) (λ f. expr_value f z.expr) (expr_degree z.expr)
 
 both : {X : Type 0} (P Q : X → Type 0) (xs : List X) → AllByRecursion P xs → AllByRecursion Q xs → AllByRecursion (λ x. P x × Q x) xs
 both P Q [] p q = tt
@@ -181,7 +181,7 @@ both P Q (x ∷ xs) p q = ((p.0, q.0), both P Q xs p.1 q.1)
 abbrev Named : List ConstraintShape → ConstraintShape → Type 0
 Named zs z = (c : ℕ) → names c z.expr ≡ true → some_names zs c ≡ true
 
-all_known : (columns : List ColumnShape) (v : ℕ) (zs : List ConstraintShape) → AllByRecursion (Fitting columns v) zs → AllByRecursion (Known columns v (named zs (length columns))) zs
+pub all_known : (columns : List ColumnShape) (v : ℕ) (zs : List ConstraintShape) → AllByRecursion (Fitting columns v) zs → AllByRecursion (Known columns v (named zs (length columns))) zs
 all_known columns v zs h =
     AllByRecursion-weaker (λ z. Fitting columns v z × Named zs z) (Known columns v (named zs (length columns)))
     (λ z k. record { fits = k.0; means = form_means (named zs (length columns)) z.expr (λ c t. covered columns v zs h c (k.1 c t)) }) zs

@@ -1,3 +1,4 @@
 pub mod Group
+pub mod Room
 pub mod Zero
 pub mod First

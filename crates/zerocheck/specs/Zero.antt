@@ -20,8 +20,10 @@ use Rattle.sumcheck.specs.declared.refused.Refused.{Refused}
 use Rattle.sumcheck.specs.Claim.{Claim, column_value, group, zero_terms, zero_vector}
 use Rattle.sumcheck.specs.Column.{ColumnFits, ColumnHolds}
 use Rattle.sumcheck.specs.Machine.{Filling, Machine}
-use Rattle.sumcheck.specs.Rounds.{sum_claim, rounds}
+use Rattle.sumcheck.specs.Rounds.{Rounds, sum_claim, rounds}
 use Rattle.sumcheck.specs.Summing.{Summing, Summed, adding, closed, summed_entries, summed_refusal, summed_message, summed_draw, summed_pending, summed_round, SummedFits, SummedHolds, summed_honest}
+use Rattle.zerocheck.specs.declared.zero_walk.Stage.{Stage}
+use Rattle.zerocheck.specs.declared.zero_walk.Stage.TheVariants.{Waiting, Stated, Drawing, Adding, Done}
 use Rattle.zerocheck.specs.Group.{Group, forms}
 
 -- ---- what is to be 0
@@ -214,3 +216,36 @@ ZeroIsDone (stated g) = ⊥
 ZeroIsDone (vector g beta prefix n) = ⊥
 ZeroIsDone (summed (adding t r)) = ⊥
 ZeroIsDone (summed (closed claims)) = Unit {0}
+
+-- ---- the walk's fields
+abbrev pub zero_of : Stage → Zeroed → ℕ → Rounds → List ColumnClaim → Zero
+zero_of Waiting t n r claims = waiting t.group
+zero_of Stated t n r claims = stated t.group
+zero_of Drawing t n r claims = vector t.group t.beta t.point n
+zero_of Adding t n r claims = summed (adding t r)
+zero_of Done t n r claims = summed (closed claims)
+
+-- before the sum no variable of it is set
+abbrev pub IsFresh : Zeroed → Rounds → List ColumnClaim → Type 0
+IsFresh t r claims = (r ≡ sum_claim (t.group.degree + 2) t.group.vars [] 0) × (claims ≡ [])
+
+-- what is known in each stage
+abbrev pub StageFits : Stage → Zeroed → ℕ → Rounds → List ColumnClaim → Type 0
+StageFits Waiting t n r claims = (t.point ≡ []) × IsFresh t r claims
+StageFits Stated t n r claims = (t.point ≡ []) × IsFresh t r claims
+StageFits Drawing t n r claims = (length t.point + suc n ≡ t.group.vars) × IsFresh t r claims
+StageFits Adding t n r claims = claims ≡ []
+StageFits Done t n r claims = Unit {0}
+
+-- the claims are still to come
+abbrev pub IsOpen : Stage → Type 0
+IsOpen Waiting = Unit {0}
+IsOpen Stated = Unit {0}
+IsOpen Drawing = Unit {0}
+IsOpen Adding = Unit {0}
+IsOpen Done = ⊥
+
+-- the stage where n coordinates are due
+abbrev pub stage_at : ℕ → Stage
+stage_at zero = Adding
+stage_at (suc n) = Drawing

@@ -3,6 +3,17 @@
 
 #![tactic(auto)]
 
+mod expressions;
+mod group;
 mod laws;
+mod no_memory;
+mod points;
+mod row_steps;
+mod zero_walk;
+mod zeroed;
 
+pub use group::Group;
 pub use laws::zeros_keep_truth;
+pub use no_memory::NoMemory;
+pub use zero_walk::ZeroWalk;
+pub use zeroed::Zeroed;

@@ -1,0 +1,5 @@
+use Rattle.zerocheck.proofs.WalkSteps.{bind_due}
+use Rattle.zerocheck.proofs.zero_walk.ZeroWalkSteps.draw.Goals as goal
+
+pub bind-requires : goal.bind-requires
+bind-requires c = bind_due _ _ _ _ _ _ c.self.view_is c.in-Adding.is c.requires
