@@ -4,16 +4,15 @@ ghost use Rattle.std.specs.Prelude.{◌≡◌, ◌≤◌, ◌+◌, ◌^◌, ◌+
 ghost use Rattle.cube_laws.specs.Extension.{extension};
 ghost use Rattle.cube_laws.specs.SumClaim.{AllLong};
 ghost use Rattle.sumcheck.specs.declared.column_claim.ColumnClaim.{ColumnClaim as Claim};
-ghost use Rattle.sumcheck.specs.Machine.{Filling};
-ghost use Rattle.eval_reduce.specs.Linear.{combination_of, stated, term_lists, Combination as Form};
+ghost use Rattle.sumcheck.specs.Machine.{AwaitsSome, Filling};
+ghost use Rattle.eval_reduce.specs.Linear.{combination_of, linear_step, stated, term_lists, Combination as Form, Linear};
 ghost use Rattle.eval_reduce.specs.Provers.{given_lists, FollowsLinear, TermsAreThere};
 
 use crate::combination::Combination;
-use crate::linear_step::LinearStep;
 use crate::no_memory::NoMemory;
 use cube_mle::mle_at;
 use std::alloc::Global;
-use sumcheck::{ColumnClaim, ColumnTables, Honest};
+use sumcheck::{ColumnClaim, ColumnTables};
 use table_shape::{Shape, ShapeTerm};
 use tower_field::{B128, Values};
 
@@ -39,6 +38,25 @@ fn copied_lists(
         }
     }
     Ok(lists)
+}
+
+/// Appends the extensions of lists at a point.
+fn append_extensions(
+    alloc: Global,
+    lists: &[Values],
+    point: &[B128],
+    out: &mut Vec<B128>,
+) -> Result<(), NoMemory>
+    requires { AllLong (2 ^ length point.now) lists.now }
+    ensures { IfOk result (λ _. out.new.items ≡ out.old.items ++ map (λ c. extension c point.now) lists.now) }
+{
+    for list in lists {
+        let value = mle_at(alloc, list.as_slice(), point)?;
+        if out.push(value).is_err() {
+            return Err(NoMemory);
+        }
+    }
+    Ok(())
 }
 
 /// The prover of a linear column, who gives the values of the terms' columns at the claim's point.
@@ -107,46 +125,18 @@ impl LinearProver {
             unreachable!();
         }
     }
-}
 
-/// Appends the extensions of lists at a point.
-fn append_extensions(
-    alloc: Global,
-    lists: &[Values],
-    point: &[B128],
-    out: &mut Vec<B128>,
-) -> Result<(), NoMemory>
-    requires { AllLong (2 ^ length point.now) lists.now }
-    ensures { IfOk result (λ _. out.new.items ≡ out.old.items ++ map (λ c. extension c point.now) lists.now) }
-{
-    for list in lists {
-        let value = mle_at(alloc, list.as_slice(), point)?;
-        if out.push(value).is_err() {
-            return Err(NoMemory);
-        }
-    }
-    Ok(())
-}
-
-impl Honest for LinearProver {
-    type Walk = LinearStep;
-
-    ghost follows = { FollowsLinear };
-
-    fn message(&mut self, out: &mut Vec<B128>) -> Result<(), sumcheck::NoMemory> {
-        let given = append_extensions(
+    /// Appends the true values of the terms' columns.
+    pub fn message(&mut self, out: &mut Vec<B128>) -> Result<(), NoMemory>
+        requires { (F : Filling) × (s : Linear) × (_ : FollowsLinear self.old F s) × AwaitsSome (linear_step.entries s) }
+        ensures values { IfOk result (λ _. (F : Filling) (s : Linear) → FollowsLinear self.old F s → AwaitsSome (linear_step.entries s) → out.new.items ≡ out.old.items ++ linear_step.honest F s) }
+        ensures state { IfOk result (λ _. (F : Filling) (s : Linear) → FollowsLinear self.old F s → AwaitsSome (linear_step.entries s) → FollowsLinear self.new F (linear_step.after_message s (linear_step.honest F s))) }
+    {
+        append_extensions(
             self.alloc,
             self.lists.as_slice(),
             self.point.as_slice(),
             out,
-        );
-        if given.is_err() {
-            return Err(sumcheck::NoMemory);
-        }
-        Ok(())
-    }
-
-    fn draw(&mut self, c: B128) {
-        unreachable!();
+        )
     }
 }

@@ -1,6 +1,8 @@
 //! The step of a linear column.
 
-ghost use Rattle.std.specs.Prelude.{◌≡◌, ◌<◌, ◌≤◌, List, length, slice_get, IfOk, IsSome, Some};
+ghost use Rattle.std.specs.Prelude.{◌≡◌, ◌<◌, ◌≤◌, List, length, slice_get, IfErr, IfOk, IsSome, MatchResult, None, Some};
+ghost use Rattle.sumcheck.specs.Claim.{claim_of};
+ghost use Rattle.sumcheck.specs.Machine.{first_entry, AwaitsMessage};
 ghost use Rattle.sumcheck.specs.declared.column_claim.ColumnClaim.{ColumnClaim as Claim};
 ghost use Rattle.eval_reduce.specs.Linear.{combination_of, linear_step, waiting, told, state_linear, Combination as Form, LinearIsDone, LinearTakes};
 
@@ -10,7 +12,7 @@ use crate::room::Points;
 use poly_forms::CheckKind;
 use std::alloc::Global;
 use std::marker::Model;
-use sumcheck::{ColumnClaim, Entry, Pending, Refused, Steps};
+use sumcheck::{ColumnClaim, Entry, Pending, Refused};
 use table_shape::Shape;
 use tower_field::B128;
 
@@ -117,14 +119,11 @@ impl LinearStep {
         } = self;
         claims
     }
-}
 
-impl Steps for LinearStep {
-    ghost machine = { linear_step };
-
-    fn is_lawful() {}
-
-    fn due(&self) -> Option<Entry> {
+    /// The message that is due.
+    pub fn due(&self) -> Option<Entry>
+        ensures { result ≡ first_entry (linear_step.entries self.now) }
+    {
         if self.told || self.claim.is_none() {
             return None;
         }
@@ -134,7 +133,13 @@ impl Steps for LinearStep {
         })
     }
 
-    fn message(&mut self, values: &[B128]) -> Result<(), Refused> {
+    /// Takes the values of the terms' columns. A refused message leaves the step as it was.
+    pub fn message(&mut self, values: &[B128]) -> Result<(), Refused>
+        requires { AwaitsMessage (length values.now) (linear_step.entries self.old) }
+        ensures answer { MatchResult result (λ _. linear_step.refusal self.old values.now ≡ None) (λ e. linear_step.refusal self.old values.now ≡ Some e) }
+        ensures state { IfOk result (λ _. self.new ≡ linear_step.after_message self.old values.now) }
+        ensures kept { IfErr result (λ _. self.new ≡ self.old) }
+    {
         let Some(claim) = &self.claim else {
             unreachable!();
         };
@@ -153,22 +158,21 @@ impl Steps for LinearStep {
         Ok(())
     }
 
-    fn draw(&mut self, c: B128) {
-        unreachable!();
-    }
-
-    fn round_claim(&self) -> Option<B128> {
-        None
-    }
-
-    fn pending_count(&self) -> u32 {
+    /// How many claims are pending.
+    pub fn pending_count(&self) -> u32
+        ensures { result ≡ length (linear_step.pending self.now) }
+    {
         if self.told {
             return self.claims.len() as u32;
         }
         if self.claim.is_some() { 1 } else { 0 }
     }
 
-    fn pending(&self, i: u32) -> Pending<'_> {
+    /// A claim that is pending.
+    pub fn pending(&self, i: u32) -> Pending<'_>
+        requires { i < length (linear_step.pending self.now) }
+        ensures { slice_get (linear_step.pending self.now) i ≡ Some (claim_of result) }
+    {
         if self.told {
             return Pending::Column {
                 claim: &self.claims[i as usize],

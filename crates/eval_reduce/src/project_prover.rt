@@ -14,7 +14,7 @@ use crate::project_step::{ProjectStep, append_bits};
 use crate::projection::Projection;
 use cube_mle::fold_low;
 use std::alloc::Global;
-use sumcheck::{ColumnClaim, ColumnTables, Honest};
+use sumcheck::{ColumnClaim, ColumnTables};
 use table_shape::Shape;
 use tower_field::{B128, Values};
 
@@ -122,19 +122,5 @@ impl ProjectProver {
             Some(claim) => claim,
             None => unreachable!(),
         }
-    }
-}
-
-impl Honest for ProjectProver {
-    type Walk = ProjectStep;
-
-    ghost follows = { FollowsProject };
-
-    fn message(&mut self, out: &mut Vec<B128>) -> Result<(), sumcheck::NoMemory> {
-        unreachable!();
-    }
-
-    fn draw(&mut self, c: B128) {
-        unreachable!();
     }
 }

@@ -9,7 +9,7 @@ use crate::no_memory::NoMemory;
 use crate::projection::Projection;
 use std::alloc::Global;
 use std::marker::Model;
-use sumcheck::{ColumnClaim, Entry, Pending, Refused, Steps};
+use sumcheck::ColumnClaim;
 use table_shape::Shape;
 use tower_field::{B128, Tower, Values};
 
@@ -136,39 +136,6 @@ impl ProjectStep {
         } = self;
         match closed {
             Some(claim) => claim,
-            None => unreachable!(),
-        }
-    }
-}
-
-impl Steps for ProjectStep {
-    ghost machine = { project };
-
-    fn is_lawful() {}
-
-    fn due(&self) -> Option<Entry> {
-        None
-    }
-
-    fn message(&mut self, values: &[B128]) -> Result<(), Refused> {
-        unreachable!();
-    }
-
-    fn draw(&mut self, c: B128) {
-        unreachable!();
-    }
-
-    fn round_claim(&self) -> Option<B128> {
-        None
-    }
-
-    fn pending_count(&self) -> u32 {
-        if self.closed.is_some() { 1 } else { 0 }
-    }
-
-    fn pending(&self, i: u32) -> Pending<'_> {
-        match &self.closed {
-            Some(claim) => Pending::Column { claim },
             None => unreachable!(),
         }
     }

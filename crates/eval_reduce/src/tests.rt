@@ -1,18 +1,18 @@
 //! The walk beside its prover.
 
-ghost use Rattle.std.specs.Prelude.{◌≡◌, ◌∷◌, [], length, IfOk};
+ghost use Rattle.std.specs.Prelude.{◌≡◌, length, IfOk};
 ghost use Rattle.eval_reduce.specs.Virtual.{IsThere};
 
 use crate::{
-    Combination, LinearProver, LinearStep, MergeProver, MergeWalk, NoMemory, PackProver, PackWalk,
-    Packing, ProjectProver, ProjectStep, Projection, ShiftProver, ShiftWalk, Shifting,
+    LinearStep, MergeProver, MergeWalk, NoMemory, PackProver, PackWalk, Packing, ProjectProver,
+    ProjectStep, Projection, ShiftProver, ShiftWalk, Shifting,
 };
 use cube_mle::{ShiftKind, mle_at};
 use sqlite_items::at;
 use std::alloc::Global;
 use std::test::Fail;
 use sumcheck::{ColumnClaim, ColumnTables};
-use table_shape::{ColumnKind, Shape, ShapeForm, ShapeTerm, resolve};
+use table_shape::{ColumnKind, Shape, ShapeForm, resolve};
 use table_text::read_tables;
 use tower_field::{B128, Tower, Values};
 use walk_example::meet;
@@ -79,18 +79,6 @@ fn walk_against_prover(rt: HostRuntime) -> Result<(), NoMemory> {
     Ok(())
 }
 
-/// Two columns of four values, of numbers 1 and 2.
-fn two_columns(alloc: Global) -> Result<ColumnTables, NoMemory>
-    ensures { IfOk result (λ tables. IsThere tables 0 1 4 × IsThere tables 0 2 4) }
-{
-    let first = [1, 2, 4, 8].map(element);
-    let second = [0xd3, 1, 1077, 0].map(element);
-    let mut tables = ColumnTables::new(alloc);
-    tables.add(0, 1, Vec::from_slice(alloc, &first)?)?;
-    tables.add(0, 2, Vec::from_slice(alloc, &second)?)?;
-    Ok(tables)
-}
-
 /// A claim at (40, 90) on column 3.
 fn claim_of(alloc: Global, value: B128) -> Result<ColumnClaim, NoMemory>
     ensures { IfOk result (λ c. (c.table ≡ 0) × ((c.column ≡ 3) × (length c.point ≡ 2))) }
@@ -102,53 +90,6 @@ fn claim_of(alloc: Global, value: B128) -> Result<ColumnClaim, NoMemory>
         point: Values::from_vec(Vec::from_slice(alloc, &point)?),
         value,
     })
-}
-
-/// 2 · a + 3 · b.
-fn two_terms(alloc: Global) -> Result<Vec<ShapeTerm>, NoMemory>
-    ensures { IfOk result (λ terms. terms.items ≡ record { coefficient = 2; column = 1 } ∷ record { coefficient = 3; column = 2 } ∷ []) }
-{
-    let mut terms = Vec::new(alloc);
-    let first = ShapeTerm {
-        coefficient: element(2),
-        column: 1,
-    };
-    let second = ShapeTerm {
-        coefficient: element(3),
-        column: 2,
-    };
-    if terms.push(first).is_err() || terms.push(second).is_err() {
-        return Err(NoMemory);
-    }
-    Ok(terms)
-}
-
-/// The column 7 + 2 · a + 3 · b, on which a value is claimed.
-fn linear_meets(alloc: Global, value: u64) -> Result<(u32, bool), NoMemory> {
-    let tables = two_columns(alloc)?;
-    let terms = two_terms(alloc)?;
-    let combination = Combination {
-        table: 0,
-        column: 3,
-        vars: 2,
-        constant: element(7),
-        terms,
-    };
-    let claim = claim_of(alloc, element(value))?;
-    let mut prover = LinearProver::of(alloc, &combination, &tables)?;
-    prover.enter(&claim);
-    let mut walk = LinearStep::of(alloc, combination)?;
-    walk.enter(&claim);
-    let mut values = Vec::new(alloc);
-    Ok(meet(&mut walk, &mut prover, 20, &mut values)?)
-}
-
-#[test]
-fn linear_against_prover(rt: HostRuntime) -> Result<(), NoMemory> {
-    let alloc = rt.alloc();
-    assert_eq!(rt; linear_meets(alloc, 0xd123)?, (1, true));
-    assert_eq!(rt; linear_meets(alloc, 1)?, (0, false));
-    Ok(())
 }
 
 /// A source of eight values of two bits, of number 1.

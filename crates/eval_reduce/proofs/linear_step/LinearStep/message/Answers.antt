@@ -2,7 +2,7 @@ use Rattle.std.proofs.Common.{◌≡◌, ◌++◌, length, sym, ◌∙◌, ap, s
 use Rattle.sumcheck.specs.Machine.{AwaitsMessage}
 use Rattle.eval_reduce.specs.Linear.{Linear, linear_entries, term_claims}
 use Rattle.eval_reduce.proofs.VirtualSteps.{few_claims, not_told}
-use Rattle.eval_reduce.proofs.linear_step.LinearStepSteps.message.Goals as goal
+use Rattle.eval_reduce.proofs.linear_step.LinearStep.message.Goals as goal
 
 pub invariant_of-self : goal.invariant_of-self
 invariant_of-self c =
