@@ -1,6 +1,8 @@
 -- Steps of making a group from a shape.
 use Rattle.std.proofs.Common.{◌≡◌, ◌∙◌, ℕ, suc, ◌+◌, ◌<◌, ◌≤◌, ◌==◌, ◌++◌, ◌^◌, cond, Bool, true, false, List, [], ◌∷◌, drop, length, map, get_or, slice_get, Option, Some, None, IsSome, option_and_then, bit_xor, refl, sym, ap, subst, arith}
 use Rattle.std.specs.List.{AllByRecursion, filter, list_any}
+use Rattle.std.proofs.lemmas.Bool.{eq-eqb}
+use Rattle.std.proofs.lemmas.Option.{same_Some}
 use Rattle.std.proofs.lemmas.List.{length-map}
 use Rattle.std.proofs.lemmas.List.Elements.{filter-append}
 use Rattle.std.proofs.Math.Nat.{max-le}
@@ -154,3 +156,19 @@ pub group_made : (shape : ShapeParts) (t v rows : ℕ) (table : TableShape) → 
     → group_of shape.tables rows t v ≡ Some (record { table = t; log_values = v; rows = rows; vars = l + v; degree = d; columns = columns; constraints = forms })
 group_made shape t v rows table r columns forms d l c f e w =
     r.found ∙ (λ i. Some (record { table = t; log_values = v; rows = rows; vars = sym w i + v; degree = sym e i; columns = sym c i; constraints = sym f i }))
+
+-- ---- a group that is there
+group_made_at : (rows n t : ℕ) (zs : List ConstraintShape) (z : ConstraintShape) → slice_get zs 0 ≡ Some z
+    → (g : Group) × (group_where t z.log_values rows n (filter (λ (y : ConstraintShape). y.log_values == z.log_values) zs) ≡ Some g)
+group_made_at rows n t [] z e = absurd (cc)
+group_made_at rows n t (x ∷ zs) z e =
+    let same = eq-eqb x.log_values z.log_values (ap (λ (y : ConstraintShape). y.log_values) (same_Some x z e)) in
+    let rest = filter (λ (y : ConstraintShape). y.log_values == z.log_values) zs in
+    (group_with t z.log_values rows n (x ∷ rest), ap (λ b. group_where t z.log_values rows n (cond b (x ∷ rest) rest)) same)
+
+-- the first constraint of a table is in a group
+pub first_group : (tables : List TableShape) (rows t : ℕ) (table : TableShape) (z : ConstraintShape) → slice_get tables t ≡ Some table → slice_get table.constraints 0 ≡ Some z
+    → (g : Group) × (group_of tables rows t z.log_values ≡ Some g)
+first_group tables rows t table z e f =
+    let made = group_made_at rows (length table.columns) t table.constraints z f in
+    (made.0, ap (λ o. option_and_then (λ (y : TableShape). group_where t z.log_values rows (length y.columns) (group z.log_values y)) o) e ∙ made.1)

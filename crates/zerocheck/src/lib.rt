@@ -17,3 +17,6 @@ pub use laws::zeros_keep_truth;
 pub use no_memory::NoMemory;
 pub use zero_walk::ZeroWalk;
 pub use zeroed::Zeroed;
+
+#[cfg(test)]
+mod tests;
