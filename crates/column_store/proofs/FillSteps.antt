@@ -11,7 +11,7 @@ use Rattle.table_shape.specs.declared.shape.ColumnShape.{ColumnShape}
 use Rattle.table_shape.specs.declared.shape.ShapeForm.{ShapeForm}
 use Rattle.table_shape.specs.Forms.{form_value}
 use Rattle.table_shape.specs.Fits.{HasKind, IsFormOf}
-use Rattle.table_shape.proofs.Bits.{item_here}
+use Rattle.list_laws.proofs.Lists.{item_here}
 use Rattle.column_store.specs.Column.{ColumnValues, lists, list_of}
 use Rattle.column_store.specs.Draft.{AreKept, IsGiven, IsKept, CanRead, count_of}
 use Rattle.column_store.specs.Filled.{filled_column, filled_at, filled}

@@ -17,15 +17,15 @@ use Rattle.table_shape.specs.declared.shape.ColumnShape.{ColumnShape}
 use Rattle.table_shape.specs.declared.shape.TableShape.{TableShape}
 use Rattle.column_store.specs.Column.{ColumnValues, lists, list_of}
 use Rattle.table_shape.specs.Parts.{ShapeParts}
-use Rattle.table_shape.specs.Size.{ceil_log}
+use Rattle.list_laws.specs.CeilLog.{ceil_log}
 use Rattle.table_shape.specs.Fits.{TableFits, ShapeFits}
 use Rattle.table_shape.specs.Filling.{Filling, IsFilling}
-use Rattle.table_shape.proofs.CeilLog.{is_least}
+use Rattle.list_laws.proofs.CeilLog.{is_least}
 use Rattle.column_store.specs.Digits.{number_of_bytes}
 use Rattle.column_store.specs.Spelled.{written_bits, column_values}
 use Rattle.column_store.specs.Draft.{count_of, zero_column, zero_columns, zeros_of, IsGiven, IsKept, AreKept, AllKept, AreRows, IsDraft, IsStored, Drafted, with_values, columns_of}
 use Rattle.table_shape.specs.Width.{log_values_at}
-use Rattle.table_shape.proofs.Bits.{item_here, drop_here}
+use Rattle.list_laws.proofs.Lists.{item_here, drop_here}
 use Rattle.column_store.specs.Filled.{filled, filled_tables}
 use Rattle.column_store.proofs.ByteDigits.{length-digits, digit_at, no_digit, powers}
 use Rattle.column_store.proofs.FilledColumns.{TablesGiven, is_filling, table_is, length-filled, length-filled_tables}

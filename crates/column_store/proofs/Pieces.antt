@@ -7,7 +7,8 @@ use Rattle.column_store.specs.Column.{ColumnValues, list_of, lists}
 use Rattle.tower_laws.specs.Lists.{sum_all}
 use Rattle.tower_laws.proofs.Rules.{plus_zero}
 use Rattle.table_shape.specs.declared.shape.ShapeTerm.{ShapeTerm}
-use Rattle.table_shape.proofs.Bits.{drop_here, power_bound}
+use Rattle.list_laws.proofs.Lists.{drop_here}
+use Rattle.list_laws.proofs.Powers.{power_bound}
 
 -- place u of 2 ^ log parts of 2 ^ level bits each
 pub part_below : (level log u e : ℕ) → level + log ≤ 7 → e ≡ 1 * 2 ^ log % 18446744073709551616 → u < e → (u < 2 ^ log) × (u * 2 ^ level + 2 ^ level ≤ 128)

@@ -10,7 +10,8 @@ use Rattle.table_shape.specs.declared.shape.ShapeForm.{ShapeForm}
 use Rattle.table_shape.specs.declared.shape.ShapeForm.TheVariants as form
 use Rattle.table_shape.specs.declared.shape.ShapeTerm.{ShapeTerm}
 use Rattle.table_shape.specs.Parts.{ShapeParts}
-use Rattle.table_shape.specs.Size.{ceil_log, size_log}
+use Rattle.list_laws.specs.CeilLog.{ceil_log}
+use Rattle.table_shape.specs.Size.{size_log}
 use Rattle.table_shape.specs.Width.{log_values_at}
 use Rattle.table_shape.specs.Forms.{level_at}
 use Rattle.table_shape.specs.Filling.{Filling, IsFilling}

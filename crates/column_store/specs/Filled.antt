@@ -6,7 +6,7 @@ use Rattle.table_shape.specs.declared.shape.ColumnKind.{ColumnKind}
 use Rattle.table_shape.specs.declared.shape.ColumnKind.TheVariants.{Committed, Virtual}
 use Rattle.table_shape.specs.declared.shape.ColumnShape.{ColumnShape}
 use Rattle.table_shape.specs.declared.shape.TableShape.{TableShape}
-use Rattle.table_shape.specs.Size.{ceil_log}
+use Rattle.list_laws.specs.CeilLog.{ceil_log}
 use Rattle.table_shape.specs.Forms.{form_value}
 use Rattle.table_shape.specs.Filling.{Filling}
 use Rattle.column_store.specs.Column.{list_of}

@@ -16,7 +16,7 @@ use Rattle.sumcheck.specs.Rounds.{Rounds, sum_claim, round_claim, with_claim, cl
 use Rattle.sumcheck.specs.Summing.{adding, closed, summed_entries, summed_honest, summed_message}
 use Rattle.sumcheck.specs.Proving.{Proving, Goes, Accompanies}
 use Rattle.sumcheck.specs.Pair.{pair_form}
-use Rattle.sumcheck.proofs.RowSteps.{opened_at}
+use Rattle.list_laws.proofs.Lists.{drop_here}
 use Rattle.sumcheck.proofs.Following.{goes_last, goes_first, draw_sets, draw_left}
 use Rattle.eval_reduce.specs.Merge.{Merge, waiting, opening, summed, Joined, joined_sum, merge_sum, points, merge_entries, merge_draw, merge_message, merge_honest}
 use Rattle.eval_reduce.specs.declared.merge_prover.MergeProver.{MergeProver}
@@ -69,7 +69,7 @@ batch_long n m i k cs c table cells h l e a b =
 pub batch_more : (n m i k : ℕ) (cs : List ColumnClaim) (c : ColumnClaim) (table cells next : List ℕ) → i < length cs → k ≡ i + 1 → c ≡ get_or cs i c → table ≡ weights c.point → cells ≡ batched (2 ^ n) m (map weights (points (drop k cs)))
     → next ≡ sums table (map (mul m) cells) → next ≡ batched (2 ^ n) m (map weights (points (drop i cs)))
 batch_more n m i k cs c table cells next l e g a b d =
-    d ∙ (λ j. sums (a j) (map (mul m) (b j))) ∙ sym (ap (λ l. batched (2 ^ n) m (map weights (points l))) (opened_at cs i c g l ∙ ap (λ k. c ∷ drop k cs) (sym e)))
+    d ∙ (λ j. sums (a j) (map (mul m) (b j))) ∙ sym (ap (λ l. batched (2 ^ n) m (map weights (points l))) (drop_here cs i c l g ∙ ap (λ k. c ∷ drop k cs) (sym e)))
 
 pub two_long : (n m : ℕ) (cs : List ColumnClaim) (a b : List ℕ) (ts : List (List ℕ)) → AllLong n (points cs) → a ≡ batched (2 ^ n) m (map weights (points cs)) → length b ≡ 2 ^ n → ts ≡ a ∷ b ∷ [] → AllLong (2 ^ n) ts
 two_long n m cs a b ts h e l t = rw t (ap length e ∙ length-batched (2 ^ n) m (map weights (points cs)) (long_weights n (points cs) h), (l, tt))

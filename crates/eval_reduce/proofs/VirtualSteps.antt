@@ -15,7 +15,7 @@ use Rattle.sumcheck.specs.declared.column_tables.ColumnTable.{ColumnTable}
 use Rattle.sumcheck.specs.Machine.{AwaitsDraw, AwaitsMessage}
 use Rattle.sumcheck.proofs.RowSteps.{long_at}
 use Rattle.table_shape.specs.declared.shape.ShapeTerm.{ShapeTerm}
-use Rattle.table_shape.proofs.Bits.{power_bound}
+use Rattle.list_laws.proofs.Powers.{power_bound}
 use Rattle.eval_reduce.specs.declared.packing.Packing.{Packing}
 use Rattle.eval_reduce.specs.declared.projection.Projection.{Projection}
 use Rattle.eval_reduce.specs.Virtual.{IsThere, table_of}

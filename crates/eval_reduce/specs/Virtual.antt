@@ -6,7 +6,7 @@ use Rattle.sumcheck.specs.declared.column_tables.ColumnTable.{ColumnTable}
 use Rattle.sumcheck.specs.ColumnTables.{list_of}
 use Rattle.table_shape.specs.declared.shape.ColumnShape.{ColumnShape}
 use Rattle.table_shape.specs.declared.shape.TableShape.{TableShape}
-use Rattle.table_shape.specs.Size.{ceil_log}
+use Rattle.list_laws.specs.CeilLog.{ceil_log}
 
 -- column c of table t, where there is one
 abbrev pub column_of : List TableShape → ℕ → ℕ → Option ColumnShape

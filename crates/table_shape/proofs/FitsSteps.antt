@@ -16,7 +16,7 @@ use Rattle.table_shape.specs.declared.shape.ConstraintShape.{ConstraintShape}
 use Rattle.table_shape.specs.declared.shape.TableShape.{TableShape}
 use Rattle.table_shape.specs.Parts.{ShapeParts}
 use Rattle.table_shape.specs.Fits.{AreSized, ColumnFits, ConstraintFits, ChannelFits, BoundaryFits, HasOneValue, IsSelector, FlushFits, TableFits, FlushesFit, ShapeFits}
-use Rattle.table_shape.proofs.Names.{list_any-map}
+use Rattle.list_laws.proofs.Names.{list_any-map}
 use Rattle.table_shape.proofs.Differ.{differ_snoc, no_names_differ}
 use Rattle.table_shape.proofs.WidthSteps.{slice_get_more, has_width_more}
 

@@ -1,6 +1,3 @@
-pub mod AndThenSteps
-pub mod Names
-pub mod CeilLog
 pub mod Bits
 pub mod LeastLevel
 pub mod FormSteps

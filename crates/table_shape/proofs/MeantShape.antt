@@ -21,14 +21,14 @@ use Rattle.table_shape.specs.declared.shape.ConstraintShape.{ConstraintShape}
 use Rattle.table_shape.specs.declared.shape.TableShape.{TableShape}
 use Rattle.table_shape.specs.declared.fault.ShapeFault.{ShapeFault}
 use Rattle.table_shape.specs.declared.fault.ShapeKind.TheVariants.{DoubleName, UnequalWidth, DegreeTooHigh, TupleWidth, TooMany}
-use Rattle.table_shape.specs.AndThen.{◌>>=◌}
+use Rattle.list_laws.specs.AndThen.{◌>>=◌}
 use Rattle.table_shape.specs.Parts.{ShapeParts}
 use Rattle.table_shape.specs.Value.{degree}
 use Rattle.table_shape.specs.Width.{width_at, width, has_width}
 use Rattle.table_shape.specs.Shape.{number_of_channel, resolved, resolved_flush, with_column, with_expr, with_constraint, with_virtual, with_checked_flush, with_resolved_flush, with_flush, with_items, with_channel, with_tuple, with_boundary, begun_table, with_decls, begun_shape, shape_of}
 use Rattle.table_shape.specs.ShapeMeaning.{IsCommitted, IsVirtual, IsResolved, IsFlush, TableParts, AreDeclared, IsTable, IsChannel, IsBoundary, AreShapes, IsShape}
-use Rattle.table_shape.proofs.AndThenSteps.{bind_ok, bind_is}
-use Rattle.table_shape.proofs.Names.{list_any-map}
+use Rattle.list_laws.proofs.Steps.{bind_ok, bind_is}
+use Rattle.list_laws.proofs.Names.{list_any-map}
 use Rattle.table_shape.proofs.Differ.{new_after, no_names_differ}
 use Rattle.table_shape.proofs.FitsSteps.{with_columns, with_constraints, with_flushes, with_channels, with_boundaries, with_tables, empty_table, names_pushed}
 use Rattle.table_shape.proofs.FormFits.{virtual_column, form_fits}

@@ -25,7 +25,7 @@ use Rattle.table_shape.specs.Width.{width_at}
 use Rattle.table_shape.specs.Fits.{BoundaryFits, FlushesFit}
 use Rattle.table_shape.specs.Shape.{resolved, resolved_form, terms_of, first_fault, flush_checks, number_of_channel, resolved_flush, with_column, with_resolved_form, with_virtual, with_expr, with_constraint, with_channel, with_tuple, with_boundary, with_checked_flush, with_resolved_flush, with_flush, with_item, with_items, begun_table}
 use Rattle.table_shape.specs.ShapeMeaning.{IsFlush}
-use Rattle.table_shape.proofs.AndThenSteps.{bind_ok}
+use Rattle.list_laws.proofs.Steps.{bind_ok}
 use Rattle.table_shape.proofs.FitsSteps.{with_columns, with_constraints, with_flushes, empty_table, flushes_fit_columns, flushes_fit_pushed}
 use Rattle.table_shape.proofs.FormFits.{not_false}
 use Rattle.table_shape.proofs.FlushSteps.{width_fits, flush_is}

@@ -21,8 +21,8 @@ use Rattle.table_shape.specs.Parts.{ShapeParts}
 use Rattle.table_shape.specs.Fits.{TableFits, FlushesFit, ShapeFits}
 use Rattle.table_shape.specs.Shape.{with_channel, with_boundary, begun_table, with_item, with_items, with_decls, shape_of}
 use Rattle.table_shape.specs.ShapeGives.{Refuses}
-use Rattle.table_shape.specs.AndThen.{◌>>=◌}
-use Rattle.table_shape.proofs.AndThenSteps.{bind_is}
+use Rattle.list_laws.specs.AndThen.{◌>>=◌}
+use Rattle.list_laws.proofs.Steps.{bind_is}
 use Rattle.table_shape.proofs.FitsSteps.{begun, begun_fits, with_tables, channel_pushed, boundary_pushed, table_pushed}
 use Rattle.table_shape.proofs.VirtualSteps.{Refuses-bind}
 use Rattle.table_shape.proofs.Passed.{channel_passed, boundary_passed, table_passed, items_keep}

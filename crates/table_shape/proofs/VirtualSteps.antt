@@ -13,7 +13,7 @@ use Rattle.table_shape.specs.declared.shape.ColumnKind.TheVariants.{Virtual}
 use Rattle.table_shape.specs.declared.shape.ColumnShape.{ColumnShape}
 use Rattle.table_shape.specs.declared.shape.ShapeForm.{ShapeForm}
 use Rattle.table_shape.specs.declared.shape.TableShape.{TableShape}
-use Rattle.table_shape.specs.AndThen.{◌>>=◌}
+use Rattle.list_laws.specs.AndThen.{◌>>=◌}
 use Rattle.table_shape.specs.Checked.{IsChecked, checked, checked_form}
 use Rattle.table_shape.specs.Shape.{first_fault, form_checks, terms_of, resolved_form, form_level, form_log_values, with_form, with_resolved_form, with_virtual}
 use Rattle.table_shape.specs.ShapeGives.{Gives, Refuses}

@@ -7,7 +7,7 @@ use Rattle.table_shape.specs.declared.fault.ShapeKind.TheVariants.{UnknownName}
 use Rattle.table_shape.specs.declared.forms.Place.{Place}
 use Rattle.table_shape.specs.declared.shape.ColumnShape.{ColumnShape}
 use Rattle.table_shape.specs.declared.shape.ShapeForm.{ShapeForm}
-use Rattle.table_shape.specs.AndThen.{◌>>=◌}
+use Rattle.list_laws.specs.AndThen.{◌>>=◌}
 use Rattle.table_shape.specs.Width.{log_values_at}
 use Rattle.table_shape.specs.Shape.{fault, first_fault, block_checks, form_checks}
 

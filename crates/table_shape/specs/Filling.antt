@@ -6,7 +6,7 @@ use Rattle.table_shape.specs.declared.shape.ColumnKind.{ColumnKind}
 use Rattle.table_shape.specs.declared.shape.ColumnKind.TheVariants.{Committed, Virtual}
 use Rattle.table_shape.specs.declared.shape.ColumnShape.{ColumnShape}
 use Rattle.table_shape.specs.declared.shape.TableShape.{TableShape}
-use Rattle.table_shape.specs.Size.{ceil_log}
+use Rattle.list_laws.specs.CeilLog.{ceil_log}
 use Rattle.table_shape.specs.Forms.{form_value}
 
 -- the values of each column of each table, by position: that at row y and index x of a column of 2 ^ v values per row stands at y * 2 ^ v + x

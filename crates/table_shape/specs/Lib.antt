@@ -1,4 +1,3 @@
-pub mod AndThen
 pub mod Limits
 pub mod Value
 pub mod Width

@@ -32,7 +32,7 @@ use Rattle.table_shape.specs.declared.shape.TableShape.{TableShape}
 use Rattle.table_shape.specs.declared.fault.ShapeFault.{ShapeFault}
 use Rattle.table_shape.specs.declared.fault.ShapeKind.{ShapeKind}
 use Rattle.table_shape.specs.declared.fault.ShapeKind.TheVariants.{UnknownName, DoubleName, LevelTooHigh, UnequalWidth, BlockTooLong, OffsetOutOfRange, RepeatedTerm, DegreeTooHigh, TupleWidth, NotOneValue, SelectorNotBit, TooMany}
-use Rattle.table_shape.specs.AndThen.{◌>>=◌}
+use Rattle.list_laws.specs.AndThen.{◌>>=◌}
 use Rattle.table_shape.specs.Value.{degree}
 use Rattle.table_shape.specs.Width.{width_at, log_values_at, terms_width, width, has_width}
 use Rattle.table_shape.specs.Forms.{level_at, linear_level}

@@ -33,4 +33,4 @@ pub use shape::{
     ColumnShapes, ConstraintShape, ConstraintShapes, FlushShape, FlushShapes, Numbers32, Shape,
     ShapeExpr, ShapeExprs, ShapeForm, ShapeTerm, ShapeTerms, TableShape, TableShapes,
 };
-pub use size::{ceil_log, ceil_log_is_least, size_log};
+pub use size::{ceil_log, size_log};

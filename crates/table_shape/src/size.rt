@@ -1,8 +1,9 @@
 //! How many bits the columns of all tables take.
 
 ghost use Rattle.table_shape.specs.Limits.{max_columns, max_rows};
-ghost use Rattle.std.specs.Prelude.{◌≡◌, ℕ, ◌*◌, ◌^◌, ◌<◌, ◌≤◌, length, slice_index};
-ghost use Rattle.table_shape.specs.Size.{ceil_log, columns_bits, size_log};
+ghost use Rattle.std.specs.Prelude.{◌≡◌, ℕ, ◌*◌, ◌^◌, ◌≤◌, length, slice_index};
+ghost use Rattle.list_laws.specs.CeilLog.{ceil_log};
+ghost use Rattle.table_shape.specs.Size.{columns_bits, size_log};
 ghost use Rattle.table_shape.specs.Fits.{AreSized};
 
 use crate::shape::{ColumnShape, Shape};
@@ -13,12 +14,6 @@ pub fn ceil_log(x: u64) -> u32
 {
     if x <= 1 { 0 } else { (x - 1).ilog2() + 1 }
 }
-
-/// `2 ^ ceil_log x` is the least power of 2 that `x` doesn't exceed.
-pub fn ceil_log_is_least()
-    ensures enough { (x : ℕ) → x ≤ 2 ^ ceil_log x }
-    ensures least { (x e : ℕ) → e < ceil_log x → 2 ^ e < x }
-{}
 
 fn columns_bits(rows: u32, columns: &[ColumnShape]) -> u64
     requires rows_few { rows ≤ max_rows }

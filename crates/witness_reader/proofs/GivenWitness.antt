@@ -12,14 +12,14 @@ use Rattle.witness_reader.specs.declared.fault.WitnessPlace.TheVariants.{Whole, 
 use Rattle.witness_reader.specs.declared.fault.WitnessKind.{WitnessKind}
 use Rattle.witness_reader.specs.declared.fault.WitnessKind.TheVariants.{NotJson, NotAnObject, MissingTable, BadRows, MissingColumn, NotAText, BadHex, WrongLength, PaddingBits, ExtraColumn, ExtraTable}
 use Rattle.witness_reader.specs.declared.fault.WitnessStop.TheVariants.{TooLarge}
-use Rattle.table_shape.specs.AndThen.{◌>>=◌}
+use Rattle.list_laws.specs.AndThen.{◌>>=◌}
 use Rattle.table_shape.specs.Size.{size_log}
 use Rattle.table_shape.specs.Shape.{table_names}
 use Rattle.column_store.specs.Digits.{number_of_bytes}
 use Rattle.witness_reader.specs.Witness.{WitnessData, or_refuse, unless, json_of, rows_of, object_of, objects_of, hex_bytes, column_bytes, given_bytes, columns_bytes, committed_names, has_other, table_bytes, tables_bytes, within_size, witness_of_objects, witness_of}
 use Rattle.column_store.specs.Spelled.{written_bits}
 use Rattle.witness_reader.specs.WitnessMeaning.{GivesColumn, GivesKind, GivesColumns, GivesTable, GivesTables, GivesWitness}
-use Rattle.table_shape.proofs.AndThenSteps.{bind_ok, bind_is}
+use Rattle.list_laws.proofs.Steps.{bind_ok, bind_is}
 use Rattle.witness_reader.proofs.KeptWitness.{along, was_there, passed, within, below_along}
 
 there : {X : Type 0} (place : WitnessPlace) (kind : WitnessKind) (o : Option X) (x : X) → o ≡ Some x → or_refuse place kind o ≡ Ok x

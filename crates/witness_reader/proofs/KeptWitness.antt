@@ -11,11 +11,11 @@ use Rattle.witness_reader.specs.declared.fault.WitnessKind.{WitnessKind}
 use Rattle.witness_reader.specs.declared.fault.WitnessKind.TheVariants.{NotAnObject, MissingTable, BadRows}
 use Rattle.witness_reader.specs.declared.fault.WitnessStop.{WitnessStop}
 use Rattle.witness_reader.specs.declared.fault.WitnessStop.TheVariants.{TooLarge}
-use Rattle.table_shape.specs.AndThen.{◌>>=◌}
+use Rattle.list_laws.specs.AndThen.{◌>>=◌}
 use Rattle.table_shape.specs.Size.{size_log}
 use Rattle.column_store.specs.Digits.{number_of_bytes}
 use Rattle.witness_reader.specs.Witness.{or_refuse, unless, rows_of, object_of, objects_of, rows_of_tables, within_size}
-use Rattle.table_shape.proofs.AndThenSteps.{bind_ok}
+use Rattle.list_laws.proofs.Steps.{bind_ok}
 
 abbrev pub Got : {X : Type 0} → Result X WitnessStop → X → Type 0
 Got r x = r ≡ Ok x

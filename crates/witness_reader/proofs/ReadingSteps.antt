@@ -6,11 +6,11 @@ use Rattle.table_shape.specs.declared.shape.ColumnShape.{ColumnShape}
 use Rattle.table_shape.specs.declared.shape.TableShape.{TableShape}
 use Rattle.witness_reader.specs.declared.fault.WitnessStop.{WitnessStop}
 use Rattle.witness_reader.specs.declared.fault.WitnessStop.TheVariants.{Fault, TooLarge, NoMemory}
-use Rattle.table_shape.specs.AndThen.{◌>>=◌}
+use Rattle.list_laws.specs.AndThen.{◌>>=◌}
 use Rattle.witness_reader.specs.WitnessGives.{Stops}
 use Rattle.witness_reader.specs.Witness.{object_of, objects_of, given_bytes, columns_bytes, table_bytes, tables_bytes}
-use Rattle.table_shape.proofs.AndThenSteps.{bind_ok, bind_is}
-use Rattle.table_shape.proofs.Bits.{drop_here}
+use Rattle.list_laws.proofs.Steps.{bind_ok, bind_is}
+use Rattle.list_laws.proofs.Lists.{drop_here}
 
 -- a stop in the first step is one of both
 pub stops_then : {A B : Type 0} (stop : WitnessStop) (r : Result A WitnessStop) (f : A → Result B WitnessStop) → Stops stop r → Stops stop (r >>= f)

@@ -19,7 +19,7 @@ use Rattle.witness_reader.specs.declared.fault.WitnessKind.{WitnessKind}
 use Rattle.witness_reader.specs.declared.fault.WitnessKind.TheVariants.{NotJson, NotAnObject, MissingTable, BadRows, MissingColumn, NotAText, BadHex, WrongLength, PaddingBits, ExtraColumn, ExtraTable}
 use Rattle.witness_reader.specs.declared.fault.WitnessStop.{WitnessStop}
 use Rattle.witness_reader.specs.declared.fault.WitnessStop.TheVariants.{Fault, TooLarge}
-use Rattle.table_shape.specs.AndThen.{◌>>=◌}
+use Rattle.list_laws.specs.AndThen.{◌>>=◌}
 use Rattle.table_shape.specs.Size.{size_log}
 use Rattle.table_shape.specs.Shape.{table_names}
 use Rattle.table_shape.specs.Filling.{Filling}

@@ -29,10 +29,10 @@ use Rattle.table_shape.specs.Filling.{Filling, IsFilling, values_at, values_of}
 use Rattle.table_shape.specs.Fits.{ConstraintFits, ShapeFits}
 use Rattle.table_shape.specs.Parts.{ShapeParts}
 use Rattle.table_shape.specs.Satisfies.{IsZeroOnRows}
-use Rattle.table_shape.specs.Size.{ceil_log}
+use Rattle.list_laws.specs.CeilLog.{ceil_log}
 use Rattle.table_shape.specs.Value.{value as expr_value, degree as expr_degree, greatest}
 use Rattle.table_shape.specs.Width.{has_width, has_width_step}
-use Rattle.table_shape.proofs.CeilLog.{is_least}
+use Rattle.list_laws.proofs.CeilLog.{is_least}
 use Rattle.zerocheck.specs.First.{FirstStatesAreMeant, IsFirst}
 use Rattle.zerocheck.specs.Group.{Group, form_on, group_of, group_where, group_with, named, names, names_step, place}
 use Rattle.zerocheck.specs.Zero.{on_rows}

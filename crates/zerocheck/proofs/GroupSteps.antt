@@ -14,16 +14,16 @@ use Rattle.cube_laws.proofs.Tabulate.{tabulate-suc}
 use Rattle.cube_laws.proofs.Weights.{length-tabulate}
 use Rattle.poly_forms.specs.declared.form.Form.{Form as Tree}
 use Rattle.poly_forms.specs.Form.{form_of, VariablesBelow}
-use Rattle.sumcheck.proofs.RowSteps.{opened_at}
+use Rattle.list_laws.proofs.Lists.{drop_here}
 use Rattle.table_shape.specs.declared.shape.ColumnShape.{ColumnShape}
 use Rattle.table_shape.specs.declared.shape.ConstraintShape.{ConstraintShape}
 use Rattle.table_shape.specs.declared.shape.TableShape.{TableShape}
 use Rattle.table_shape.specs.Counts.{group}
 use Rattle.table_shape.specs.Fits.{ShapeFits}
 use Rattle.table_shape.specs.Parts.{ShapeParts}
-use Rattle.table_shape.specs.Size.{ceil_log}
+use Rattle.list_laws.specs.CeilLog.{ceil_log}
 use Rattle.table_shape.specs.Value.{greatest}
-use Rattle.table_shape.proofs.CeilLog.{at_most}
+use Rattle.list_laws.proofs.CeilLog.{at_most}
 use Rattle.zerocheck.specs.Group.{Group, form_on, group_of, group_where, group_with, named, names}
 use Rattle.zerocheck.proofs.FirstLaws.{Fitting, Known, all_fitting, all_known}
 
@@ -59,7 +59,7 @@ pub batch_more : (xs : List Tree) (i j : ℕ) (x : Tree) (values : List ℕ) (be
     → next ≡ horner (map (λ form. value form values) (map form_of (drop i xs))) beta
 batch_more xs i j x values beta sum v next e l s h w n =
     n ∙ (λ k. bit_xor (w k) (mul beta ((h ∙ ap (λ m. horner (map (λ form. value form values) (map form_of (drop m xs))) beta) s) k)))
-    ∙ ap (λ (ts : List Tree). horner (map (λ form. value form values) (map form_of ts)) beta) (sym (opened_at xs i x e l))
+    ∙ ap (λ (ts : List Tree). horner (map (λ form. value form values) (map form_of ts)) beta) (sym (drop_here xs i x l e))
 
 -- ---- what a shape has
 degrees_low : (columns : List ColumnShape) (v : ℕ) (zs : List ConstraintShape) → AllByRecursion (Fitting columns v) zs → greatest (map (λ (z : ConstraintShape). z.degree) zs) ≤ 8

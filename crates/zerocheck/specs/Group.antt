@@ -13,7 +13,7 @@ use Rattle.table_shape.specs.declared.shape.ShapeExpr.TheFolds.{fold-ShapeExpr}
 use Rattle.table_shape.specs.declared.shape.ConstraintShape.{ConstraintShape}
 use Rattle.table_shape.specs.declared.shape.TableShape.{TableShape}
 use Rattle.table_shape.specs.Counts.{group}
-use Rattle.table_shape.specs.Size.{ceil_log}
+use Rattle.list_laws.specs.CeilLog.{ceil_log}
 use Rattle.table_shape.specs.Value.{greatest}
 
 -- ---- expressions as forms

@@ -1,5 +1,5 @@
 use Rattle.std.proofs.Common.{arith}
-use Rattle.table_shape.proofs.Bits.{rows_shift_is}
+use Rattle.list_laws.proofs.Powers.{rows_shift_is}
 use Rattle.column_store.proofs.bits.written_bits.Goals as goal
 
 pub returns-clause-value : goal.returns-clause-value

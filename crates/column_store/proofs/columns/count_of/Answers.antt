@@ -1,7 +1,7 @@
 use Rattle.std.proofs.Common.{◌≡◌, ◌+◌, ◌^◌, ap, ◌∙◌, arith}
 use Rattle.std.proofs.lemmas.Nat.{one_shl}
-use Rattle.table_shape.specs.Size.{ceil_log}
-use Rattle.table_shape.proofs.Bits.{log_of_rows, power_bound}
+use Rattle.list_laws.specs.CeilLog.{ceil_log}
+use Rattle.list_laws.proofs.Powers.{log_of_rows, power_bound}
 use Rattle.column_store.proofs.columns.count_of.Goals as goal
 
 pub overflow_add-result : goal.overflow_add-result

@@ -1,7 +1,7 @@
 use Rattle.std.proofs.Common.{◌≡◌, ◌++◌, take, drop, set, get_or, length-append, ap, length, refl, sym, ◌∙◌, arith}
 use Rattle.std.proofs.lemmas.List.{length-take-le, with_items_is}
 use Rattle.std.proofs.Math.ListN.{length-set}
-use Rattle.table_shape.proofs.Bits.{item_here}
+use Rattle.list_laws.proofs.Lists.{item_here}
 use Rattle.column_store.specs.Column.{ColumnValues}
 use Rattle.column_store.proofs.FillSteps.{begun, ended, committed_of, own_kept, own_reads, own_fits, kept_step, filled_step}
 use Rattle.column_store.proofs.columns.fill_columns.Goals as goal

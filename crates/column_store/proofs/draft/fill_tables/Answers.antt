@@ -2,7 +2,7 @@ use Rattle.std.proofs.Common.{◌+◌, length, get_or, ap, sym, subst, ◌∙◌
 use Rattle.std.proofs.lemmas.List.{drop-set-lt}
 use Rattle.std.proofs.Math.ListN.{length-set}
 use Rattle.table_shape.specs.declared.shape.TableShape.{TableShape}
-use Rattle.table_shape.proofs.Bits.{item_here}
+use Rattle.list_laws.proofs.Lists.{item_here}
 use Rattle.column_store.specs.Column.{lists}
 use Rattle.column_store.specs.Draft.{AreKept}
 use Rattle.column_store.specs.Filled.{filled}

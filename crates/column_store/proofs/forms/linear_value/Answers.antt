@@ -1,7 +1,7 @@
 use Rattle.std.proofs.Common.{◌≡◌, ℕ, get_or, sym, ap, ◌∙◌}
 use Rattle.tower_laws.specs.Tower.{mul}
 use Rattle.table_shape.specs.declared.shape.ShapeTerm.{ShapeTerm}
-use Rattle.table_shape.proofs.Bits.{item_here}
+use Rattle.list_laws.proofs.Lists.{item_here}
 use Rattle.column_store.specs.Column.{list_of, lists}
 use Rattle.column_store.proofs.Pieces.{terms_more, terms_done, list_at}
 use Rattle.column_store.proofs.forms.linear_value.Goals as goal

@@ -1,6 +1,6 @@
 use Rattle.std.proofs.Common.{◌≡◌, ap, ◌∙◌, arith}
-use Rattle.table_shape.specs.Size.{ceil_log}
-use Rattle.table_shape.proofs.CeilLog.{at_most}
+use Rattle.list_laws.specs.CeilLog.{ceil_log}
+use Rattle.list_laws.proofs.CeilLog.{at_most}
 use Rattle.eval_reduce.proofs.virtual_column.vars_on.Goals as goal
 
 pub overflow_add-result : goal.overflow_add-result

@@ -11,7 +11,7 @@ use Rattle.table_shape.specs.ShapeGives.{Refuses}
 use Rattle.table_shape.proofs.FitsSteps.{column_pushed}
 use Rattle.table_shape.proofs.FormFits.{virtual_column, virtual_fits}
 use Rattle.table_shape.proofs.VirtualSteps.{virtual_due, form_passed, with_virtual_column, Refuses-bind, gives_refusal, column_is, push_is}
-use Rattle.table_shape.proofs.AndThenSteps.{bind_is}
+use Rattle.list_laws.proofs.Steps.{bind_is}
 use Rattle.table_shape.proofs.forms.with_virtual.Goals as goal
 
 pub returns-in_err-form-clause-exact : goal.returns-in_err-form-clause-exact

@@ -1,4 +1,4 @@
-use Rattle.table_shape.proofs.CeilLog.{from_floor, from_one}
+use Rattle.list_laws.proofs.CeilLog.{from_floor, from_one}
 use Rattle.table_shape.proofs.size.ceil_log.Goals as goal
 
 pub returns-then-x-le1 : goal.returns-then-x-le1

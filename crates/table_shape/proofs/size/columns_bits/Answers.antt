@@ -1,6 +1,7 @@
 use Rattle.std.proofs.Common.{◌≡◌, ◌≤◌, ◌^◌, ◌+◌, ap, ◌∙◌, arith}
-use Rattle.table_shape.specs.Size.{ceil_log}
-use Rattle.table_shape.proofs.Bits.{column_here, columns_more, columns_done, log_of_rows, shift_is}
+use Rattle.list_laws.specs.CeilLog.{ceil_log}
+use Rattle.list_laws.proofs.Powers.{log_of_rows, shift_is}
+use Rattle.table_shape.proofs.Bits.{column_here, columns_more, columns_done}
 use Rattle.table_shape.proofs.size.columns_bits.Goals as goal
 
 pub overflow_add-bits : goal.overflow_add-bits

@@ -1,5 +1,6 @@
 use Rattle.std.proofs.Common.{◌≡◌, ◌≤◌, length, drop, get_or, ap, ◌∙◌, arith}
-use Rattle.table_shape.specs.Size.{ceil_log, tables_bits, columns_bits}
+use Rattle.list_laws.specs.CeilLog.{ceil_log}
+use Rattle.table_shape.specs.Size.{tables_bits, columns_bits}
 use Rattle.table_shape.proofs.Bits.{table_at, tables_more, tables_done}
 use Rattle.table_shape.proofs.size.size_log.Goals as goal
 

@@ -2,13 +2,13 @@ use Rattle.std.proofs.Common.{◌+◌, drop}
 use Rattle.std.proofs.lemmas.Result.{err_from_is_err_and}
 use Rattle.serde_json.specs.View.{members_view}
 use Rattle.witness_reader.specs.Witness.{columns_bytes}
-use Rattle.table_shape.proofs.Bits.{column_here}
+use Rattle.list_laws.proofs.Lists.{item_here}
 use Rattle.witness_reader.proofs.ReadingSteps.{columns_stop, columns_go_on, ends, goes_on}
 use Rattle.witness_reader.proofs.witness.columns_bytes.Goals as goal
 
 pub given_bytes-requires : goal.given_bytes-requires
 given_bytes-requires c =
-    let at = column_here c.loop-c.c c.args.columns.now c.index-columns-c.result c.loop-c-test.true c.index-columns-c.is c.requires.sized in
+    let at = c.requires.sized c.loop-c.c c.index-columns-c.result (item_here c.args.columns.now c.loop-c.c c.index-columns-c.result c.loop-c-test.true c.index-columns-c.is) in
     record { rows_few = c.requires.rows_few; level = at.0; values = at.1 }
 
 pub returns-in_err-bytes : goal.returns-in_err-bytes

@@ -1,7 +1,7 @@
 use Rattle.std.proofs.Common.{bytes_eq, rules, tests, ◌∙◌}
 use Rattle.std.proofs.lemmas.Iterator.{YieldsList-from_slice}
 use Rattle.std.proofs.lemmas.Iterator.Search.{any_from_yields_List}
-use Rattle.table_shape.proofs.Names.{list_any-map}
+use Rattle.list_laws.proofs.Names.{list_any-map}
 use Rattle.witness_reader.proofs.witness.is_table.Goals as goal
 
 pub returns : goal.returns

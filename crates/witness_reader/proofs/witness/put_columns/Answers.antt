@@ -2,7 +2,7 @@ use Rattle.std.proofs.Common.{◌≡◌, Some, List, [], length, get_or, ap, sym
 use Rattle.std.specs.List.{slice_get}
 use Rattle.std.proofs.lemmas.Option.{slice_get-get_or}
 use Rattle.table_shape.specs.declared.shape.ColumnShape.{ColumnShape}
-use Rattle.table_shape.proofs.Bits.{item_here}
+use Rattle.list_laws.proofs.Lists.{item_here}
 use Rattle.column_store.specs.Draft.{Drafted, TakesBits, with_values}
 use Rattle.column_store.specs.Spelled.{column_values}
 use Rattle.witness_reader.proofs.Putting.{columns_begun, columns_ended, column_taken, column_left, committed_bits, virtual_bits, drafted_as}

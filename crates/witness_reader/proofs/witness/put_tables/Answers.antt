@@ -1,5 +1,5 @@
 use Rattle.std.proofs.Common.{ℕ, List, get_or, ap, sym, subst, ◌∙◌, arith}
-use Rattle.table_shape.proofs.Bits.{item_here}
+use Rattle.list_laws.proofs.Lists.{item_here}
 use Rattle.column_store.specs.Draft.{Drafted}
 use Rattle.column_store.specs.Spelled.{table_values}
 use Rattle.witness_reader.specs.Putting.{AreColumnsSpelled}

@@ -1,7 +1,7 @@
 use Rattle.std.proofs.Common.{drop, sym, ◌∙◌}
 use Rattle.std.proofs.lemmas.Result.{err_from_is_err_and}
 use Rattle.serde_json.specs.View.{members_view}
-use Rattle.table_shape.proofs.Bits.{item_here}
+use Rattle.list_laws.proofs.Lists.{item_here}
 use Rattle.witness_reader.specs.Witness.{tables_bytes}
 use Rattle.witness_reader.proofs.ReadingSteps.{bytes_from, tables_stop_at_object, tables_stop_at_bytes, tables_end, same_bytes, stops_along, ends, is_done}
 use Rattle.witness_reader.proofs.witness.tables_bytes.Goals as goal

@@ -1,7 +1,7 @@
 use Rattle.std.proofs.Common.{◌≡◌, ◌+◌, ◌*◌, ◌^◌, ◌<◌, [], length, get_or, sym, ap, subst, ◌∙◌, arith}
 use Rattle.std.proofs.lemmas.Nat.{shl_below}
 use Rattle.table_shape.specs.Width.{log_values_at}
-use Rattle.table_shape.proofs.Bits.{power_bound}
+use Rattle.list_laws.proofs.Powers.{power_bound}
 use Rattle.column_store.specs.Column.{list_of}
 use Rattle.column_store.specs.Draft.{Stored, columns_of}
 use Rattle.column_store.proofs.Pieces.{no_wrap, list_at}

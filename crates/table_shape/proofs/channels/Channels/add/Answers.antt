@@ -2,7 +2,7 @@ use Rattle.std.proofs.Common.{List, ap, sym, ◌∙◌}
 use Rattle.std.specs.List.{list_any}
 use Rattle.std.specs.Str.{bytes_eq}
 use Rattle.table_shape.specs.declared.shape.ChannelShape.{ChannelShape}
-use Rattle.table_shape.proofs.Names.{list_any-map}
+use Rattle.list_laws.proofs.Names.{list_any-map}
 use Rattle.table_shape.proofs.channels.Channels.add.Goals as goal
 
 pub add-requires : goal.add-requires

@@ -3,7 +3,7 @@ use Rattle.std.specs.List.{position_from}
 use Rattle.std.specs.Str.{bytes_eq}
 use Rattle.table_shape.specs.declared.shape.ChannelShape.{ChannelShape}
 use Rattle.table_shape.specs.Shape.{number_of_channel}
-use Rattle.table_shape.proofs.Names.{position_from-map}
+use Rattle.list_laws.proofs.Names.{position_from-map}
 use Rattle.table_shape.proofs.channels.Channels.number_of.Goals as goal
 
 pub returns : goal.returns

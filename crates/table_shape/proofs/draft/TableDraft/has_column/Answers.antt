@@ -3,7 +3,7 @@ use Rattle.std.specs.List.{list_any}
 use Rattle.std.specs.Str.{bytes_eq}
 use Rattle.table_shape.specs.declared.shape.ColumnShape.{ColumnShape}
 use Rattle.table_shape.specs.declared.shape.TableShape.{TableShape}
-use Rattle.table_shape.proofs.Names.{list_any-map}
+use Rattle.list_laws.proofs.Names.{list_any-map}
 use Rattle.table_shape.proofs.draft.TableDraft.has_column.Goals as goal
 
 pub returns : goal.returns

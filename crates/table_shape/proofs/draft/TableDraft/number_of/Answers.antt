@@ -4,7 +4,7 @@ use Rattle.std.specs.Str.{bytes_eq}
 use Rattle.table_shape.specs.declared.shape.ColumnShape.{ColumnShape}
 use Rattle.table_shape.specs.declared.shape.TableShape.{TableShape}
 use Rattle.table_shape.specs.Shape.{number_of_name}
-use Rattle.table_shape.proofs.Names.{position_from-map}
+use Rattle.list_laws.proofs.Names.{position_from-map}
 use Rattle.table_shape.proofs.draft.TableDraft.number_of.Goals as goal
 
 pub returns : goal.returns

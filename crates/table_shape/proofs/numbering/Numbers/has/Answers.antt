@@ -1,7 +1,7 @@
 use Rattle.std.proofs.Common.{List, ℕ, ap, ◌∙◌}
 use Rattle.std.specs.List.{list_any}
 use Rattle.std.specs.Str.{bytes_eq}
-use Rattle.table_shape.proofs.Names.{list_any-map}
+use Rattle.list_laws.proofs.Names.{list_any-map}
 use Rattle.table_shape.proofs.numbering.Numbers.has.Goals as goal
 
 pub returns : goal.returns

@@ -1,7 +1,7 @@
 use Rattle.std.proofs.Common.{List, ℕ, ap, sym, ◌∙◌}
 use Rattle.std.specs.List.{position_from}
 use Rattle.std.specs.Str.{bytes_eq}
-use Rattle.table_shape.proofs.Names.{position_is}
+use Rattle.list_laws.proofs.Names.{position_is}
 use Rattle.table_shape.proofs.numbering.Numbers.number_of.Goals as goal
 
 pub returns-in-Some : goal.returns-in-Some

@@ -1,5 +1,5 @@
 use Rattle.std.proofs.Common.{◌∙◌, ap, length, arith}
-use Rattle.table_shape.specs.Size.{ceil_log}
+use Rattle.list_laws.specs.CeilLog.{ceil_log}
 use Rattle.zerocheck.proofs.GroupSteps.{ready, rows_small, columns_are, forms_are, degree_is, kept_is, group_made}
 use Rattle.zerocheck.proofs.group.Group.of.Goals as goal
 

@@ -3,7 +3,7 @@ use Rattle.std.proofs.Common.{◌≡◌, ℕ, zero, suc, ◌+◌, ◌-◌, ◌*�
 use Rattle.std.proofs.Math.Nat.{pow-le-pow_right, pow-suc, mul_comm}
 use Rattle.std.proofs.lemmas.Nat.{pow_pos, pow-add}
 use Rattle.std.proofs.lemmas.Bool.{leb-true, leb-false, cases_lt}
-use Rattle.table_shape.specs.Size.{ceil_log_from, ceil_log}
+use Rattle.list_laws.specs.CeilLog.{ceil_log_from, ceil_log}
 
 pub record IsLeast (e x l : ℕ) : Type 0 where
   pub enough : x ≤ 2 ^ l

@@ -1,0 +1,5 @@
+pub mod Lists
+pub mod Names
+pub mod Powers
+pub mod CeilLog
+pub mod Steps
