@@ -3,4 +3,3 @@ pub mod Spelled
 pub mod Column
 pub mod Filled
 pub mod Draft
-pub mod SizeStop

@@ -11,15 +11,14 @@ ghost use Rattle.column_store.specs.Column.{ColumnValues, lists};
 ghost use Rattle.column_store.specs.Spelled.{column_values};
 ghost use Rattle.column_store.specs.Draft.{AllKept, TakesBits, with_values, zero_tables, zeros_of};
 ghost use Rattle.column_store.specs.Filled.{filled_tables};
-ghost use Rattle.column_store.specs.SizeStop.{AnswersSize};
+ghost use Rattle.table_shape.specs.SizeStop.{AnswersSize};
 
 use crate::columns::Columns;
-use crate::size_stop::SizeStop;
 use crate::store::Store;
 use sqlite_items::Items;
 use std::alloc::{AllocError, Global};
 use std::marker::Model;
-use table_shape::{MAX_SIZE_LOG, Shape, TableShape, size_log};
+use table_shape::{MAX_SIZE_LOG, Shape, SizeStop, TableShape, size_log};
 
 /// Tables, how many rows each has, and values for their committed columns.
 #[derive(Debug, Drop)]

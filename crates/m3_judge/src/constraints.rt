@@ -15,7 +15,7 @@ use tower_field::{B128, Tower, by_level, lift};
 
 /// A constraint whose value at a row and an index isn't 0.
 #[derive(Clone, Copy, Debug, PartialEq, Eq)]
-pub(crate) struct NonZero {
+pub struct NonZero {
     pub table: u32,
     pub constraint: u32,
     pub row: u32,
@@ -211,7 +211,7 @@ fn first_in_table(store: &Store, number: u32, table: &TableShape, rows: u32) -> 
 }
 
 /// The first value that isn't 0, in the order of table, constraint, row and index.
-pub(crate) fn first_nonzero(store: &Store) -> Option<NonZero>
+pub fn first_nonzero(store: &Store) -> Option<NonZero>
     ensures { FindsFirstNonZero store.now.shape.tables store.now.rows store.now.filling result }
 {
     let rows = store.rows();

@@ -9,6 +9,7 @@ mod source;
 mod unequal;
 mod verdict;
 
+pub use constraints::{NonZero, first_nonzero};
 pub use laws::orders_tell_multisets;
 pub use no_memory::NoMemory;
 pub use verdict::{Verdict, Violation, judge};

@@ -10,7 +10,11 @@ pub mod ShapeMeaning
 pub mod ShapeGives
 pub mod Names
 pub mod Size
+pub mod SizeStop
 pub mod Filling
 pub mod Channels
 pub mod Satisfies
 pub mod Counts
+pub mod Lowering
+pub mod Placement
+pub mod Oracle

@@ -45,3 +45,7 @@ max_rows = 1048576
 -- all columns take at most 2 ^ max_size_log bits
 abbrev pub max_size_log : ℕ
 max_size_log = 24
+
+-- one column takes at most 2 ^ max_block_log bits: those of 2 ^ 20 rows of 2 ^ 7 values of 2 ^ 7 bits
+abbrev pub max_block_log : ℕ
+max_block_log = 34

@@ -17,14 +17,15 @@ mod numbers;
 mod resolving;
 mod shape;
 mod size;
+mod size_stop;
 #[cfg(test)]
 mod tests;
 mod width;
 
 pub use fault::{ShapeFault, ShapeKind, ShapeStop};
 pub use limits::{
-    MAX_BOUNDARIES, MAX_CHANNEL_WIDTH, MAX_CHANNELS, MAX_COLUMNS, MAX_CONSTRAINTS, MAX_DEGREE,
-    MAX_FLUSHES, MAX_ROWS, MAX_SIZE_LOG, MAX_TABLES, MAX_TERMS,
+    MAX_BLOCK_LOG, MAX_BOUNDARIES, MAX_CHANNEL_WIDTH, MAX_CHANNELS, MAX_COLUMNS, MAX_CONSTRAINTS,
+    MAX_DEGREE, MAX_FLUSHES, MAX_ROWS, MAX_SIZE_LOG, MAX_TABLES, MAX_TERMS,
 };
 pub use no_memory::NoMemory;
 pub use resolving::{resolve, shaped_where_meant};
@@ -34,3 +35,4 @@ pub use shape::{
     ShapeExpr, ShapeExprs, ShapeForm, ShapeTerm, ShapeTerms, TableShape, TableShapes,
 };
 pub use size::{ceil_log, size_log};
+pub use size_stop::SizeStop;

@@ -35,3 +35,6 @@ pub const MAX_ROWS: u32 = 1_048_576;
 
 /// All columns take at most `2 ^ MAX_SIZE_LOG` bits.
 pub const MAX_SIZE_LOG: u32 = 24;
+
+/// One column takes at most `2 ^ MAX_BLOCK_LOG` bits.
+pub const MAX_BLOCK_LOG: u32 = 34;

@@ -26,13 +26,13 @@ ghost use Rattle.column_store.specs.Draft.{zero_columns, zero_tables};
 ghost use Rattle.witness_reader.specs.Putting.{AreColumnsSpelled, AreTablesSpelled};
 
 use crate::fault::{WitnessFault, WitnessKind, WitnessPlace, WitnessStop};
-use column_store::{Draft, SizeStop, Store, spells_bits, written_bits};
+use column_store::{Draft, Store, spells_bits, written_bits};
 use hex::FromHexError;
 use serde_json::{Map, Value};
 use sqlite_items::Items;
 use std::alloc::Global;
 use std::str;
-use table_shape::{ColumnKind, ColumnShape, MAX_ROWS, Shape, TableShape};
+use table_shape::{ColumnKind, ColumnShape, MAX_ROWS, Shape, SizeStop, TableShape};
 
 /// The values that a witness file gives to the columns of tables, or its first fault.
 ///

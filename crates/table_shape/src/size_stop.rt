@@ -1,12 +1,12 @@
-//! Why there is no draft.
+//! Why nothing is made for so many rows.
 
 ghost use Rattle.std.specs.Prelude.{◌≡◌};
-ghost use Rattle.column_store.specs.declared.size_stop.SizeStop.TheVariants.{NoMemory};
+ghost use Rattle.table_shape.specs.declared.size_stop.SizeStop.TheVariants.{NoMemory};
 
+use crate::no_memory::NoMemory as ShapeNoMemory;
 use std::alloc::AllocError;
-use table_shape::NoMemory as ShapeNoMemory;
 
-/// Why there is no draft of so many rows.
+/// Why nothing is made for the columns of so many rows.
 #[derive(Clone, Copy, Debug, PartialEq, Eq)]
 pub enum SizeStop {
     /// The columns take more than `2 ^ 24` bits: at most `2 ^ log_bits`.
