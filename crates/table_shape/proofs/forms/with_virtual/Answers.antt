@@ -7,7 +7,6 @@ use Rattle.table_shape.specs.declared.shape.ShapeForm.{ShapeForm}
 use Rattle.table_shape.specs.Checked.{IsChecked, checked_form}
 use Rattle.table_shape.specs.Fits.{TableFits}
 use Rattle.table_shape.specs.Shape.{form_level, form_log_values, resolved_form, terms_of}
-use Rattle.table_shape.specs.ShapeGives.{Refuses}
 use Rattle.table_shape.proofs.FitsSteps.{column_pushed}
 use Rattle.table_shape.proofs.FormFits.{virtual_column, virtual_fits}
 use Rattle.table_shape.proofs.VirtualSteps.{virtual_due, form_passed, with_virtual_column, Refuses-bind, gives_refusal, column_is, push_is}
