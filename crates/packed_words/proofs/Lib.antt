@@ -7,3 +7,4 @@ pub mod Filling
 pub mod Levels
 pub mod Packed
 pub mod ByBytes
+pub mod LaneWords

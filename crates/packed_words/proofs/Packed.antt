@@ -16,6 +16,7 @@ use Rattle.cube_laws.specs.Sums.{tabulate}
 use Rattle.cube_laws.proofs.Tabulate.{get_or-tabulate, entries, tabulated}
 use Rattle.cube_laws.proofs.Weights.{length-tabulate, tabulate-same}
 use Rattle.packed_words.specs.Packing.{per_word, element_at, lane, lanes, lane_sums, lane_products}
+use Rattle.packed_words.specs.LaneWords.{AreProducts}
 use Rattle.packed_words.proofs.Filling.{eq_cases}
 use Rattle.packed_words.proofs.Levels.{width_times, count_is, per_word_pos}
 
@@ -46,6 +47,14 @@ lanes_of_sums i n xs ys zs h =
     ∙ (λ t. bit_xor (lane_at i n j xs l t) (lane_at i n j ys l t))
     ∙ sym (element_xor i (get_or xs (j / per_word i) 0) (get_or ys (j / per_word i) 0) (j % per_word i))
     ∙ ap (λ w. element_at i w (j % per_word i)) (sym (h (j / per_word i) (word_lt i n j l)))))
+
+-- ---- products of words
+pub lanes_of_products : (i n : ℕ) (xs ys zs : List ℕ) → ((k : ℕ) → k < n → AreProducts i (get_or xs k 0) (get_or ys k 0) (get_or zs k 0)) → lanes i n zs ≡ lane_products (lanes i n xs) (lanes i n ys)
+lanes_of_products i n xs ys zs h =
+    sym (from_lanes i n zs (lane_products (lanes i n xs) (lanes i n ys)) (length-tabulate (length (lanes i n xs)) _ ∙ length-lanes i n xs) (λ j l.
+    get_or-tabulate (length (lanes i n xs)) j (λ j. mul (get_or (lanes i n xs) j 0) (get_or (lanes i n ys) j 0)) (let e = length-lanes i n xs in omega arith)
+    ∙ (λ t. mul (lane_at i n j xs l t) (lane_at i n j ys l t))
+    ∙ sym (h (j / per_word i) (word_lt i n j l) (j % per_word i) (mod-lt j (per_word_pos i)))))
 
 -- ---- one element
 below : (t q d x : ℕ) → x * 2 ^ (t * (q + suc d)) / 2 ^ (t * q) % 2 ^ t ≡ 0

@@ -6,7 +6,7 @@ use Rattle.cube_laws.specs.Extension.{bit}
 use Rattle.packed_words.specs.Exchange.{with_bit}
 use Rattle.packed_words.specs.declared.transpose.TheConstants.{CLEAR}
 
-seven : (P : ℕ → Type 0) → P 0 → P 1 → P 2 → P 3 → P 4 → P 5 → P 6 → (k : ℕ) → k < 7 → P k
+pub seven : (P : ℕ → Type 0) → P 0 → P 1 → P 2 → P 3 → P 4 → P 5 → P 6 → (k : ℕ) → k < 7 → P k
 seven P a b c d e f g zero h = a
 seven P a b c d e f g (suc zero) h = b
 seven P a b c d e f g (suc (suc zero)) h = c

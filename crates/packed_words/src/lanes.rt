@@ -6,6 +6,7 @@ ghost use Rattle.cube_laws.specs.Extension.{fold_low};
 ghost use Rattle.cube_laws.specs.Sums.{tabulate};
 ghost use Rattle.packed_words.specs.Packing.{lane_products, lane_sums, lanes, per_word};
 
+use crate::lane_words::products_in_words;
 use std::marker::{Model, PhantomData};
 use tower_field::Tower;
 
@@ -30,6 +31,9 @@ pub(crate) fn element_in(word: u128, bit: u32, level: u32) -> u128
 {
     word >> bit & (u128::MAX >> (128 - (1u32 << level)))
 }
+
+/// The greatest level at which the lanes of a word are multiplied all at once.
+const MOST_BY_WORDS: u32 = 3;
 
 /// As many elements of one level as `W` words of 128 bits hold, lane 0 in the lowest bits of the
 /// first word. A contract sees the list of their numbers.
@@ -56,6 +60,16 @@ impl<F: Tower, const W: usize> Lanes<F, W> {
     {
         Lanes {
             words: [0; W],
+            level: PhantomData,
+        }
+    }
+
+    /// The same elements once more.
+    pub fn copy(&self) -> Self
+        ensures { result ≡ self.now }
+    {
+        Lanes {
+            words: self.words,
             level: PhantomData,
         }
     }
@@ -106,7 +120,30 @@ impl<F: Tower, const W: usize> Lanes<F, W> {
     }
 
     /// The product of the elements in each lane.
-    pub fn mul(mut self, other: Self) -> Self
+    pub fn mul(self, other: Self) -> Self
+        ensures { result ≡ lane_products self other }
+    {
+        if F::LEVEL <= MOST_BY_WORDS {
+            self.mul_by_words(other)
+        } else {
+            self.mul_by_lanes(other)
+        }
+    }
+
+    /// The same, all lanes of a word at once.
+    fn mul_by_words(mut self, other: Self) -> Self
+        requires { F.LEVEL ≤ 3 }
+        ensures { result ≡ lane_products self other }
+    {
+        let _ = &other.words;
+        for w in 0..W {
+            self.words[w] = products_in_words(F::LEVEL, self.words[w], other.words[w]);
+        }
+        self
+    }
+
+    /// The same, lane by lane.
+    fn mul_by_lanes(mut self, other: Self) -> Self
         ensures { result ≡ lane_products self other }
     {
         let _ = &other.words;

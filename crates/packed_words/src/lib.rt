@@ -6,6 +6,7 @@
 mod bit_sums;
 mod by_byte;
 mod element;
+mod lane_words;
 mod lanes;
 mod multiples;
 mod no_memory;

@@ -5,7 +5,7 @@ ghost use Rattle.cube_laws.specs.Extension.{bit};
 ghost use Rattle.packed_words.specs.Exchange.{with_bit};
 
 /// For each bit of a position, the positions that have 0 there.
-const CLEAR: [u128; 7] = [
+pub(crate) const CLEAR: [u128; 7] = [
     0x5555_5555_5555_5555_5555_5555_5555_5555,
     0x3333_3333_3333_3333_3333_3333_3333_3333,
     0x0f0f_0f0f_0f0f_0f0f_0f0f_0f0f_0f0f_0f0f,

@@ -1,7 +1,7 @@
 use Rattle.std.proofs.Common.{arith}
 use Rattle.packed_words.specs.Packing.{lane_products}
 use Rattle.packed_words.proofs.Packed.{begun, lanes_long, length-products, more_products, all_products}
-use Rattle.packed_words.proofs.lanes.Lanes.mul.Goals as goal
+use Rattle.packed_words.proofs.lanes.Lanes.mul_by_lanes.Goals as goal
 
 pub loop-i-init : goal.loop-i-init
 loop-i-init g c = let e = length-products c.args.self c.args.other in begun (lane_products c.args.self c.args.other) c.args.self (omega arith)

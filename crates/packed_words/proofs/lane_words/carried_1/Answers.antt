@@ -1,0 +1,6 @@
+use Rattle.std.proofs.Common.{arith}
+use Rattle.packed_words.proofs.LaneWords.{carried_next}
+use Rattle.packed_words.proofs.lane_words.carried_1.Goals as goal
+
+pub returns : goal.returns
+returns c = carried_next 1 c.args.word c.highs-high.result c.raised.result (omega arith) c.highs-high.ensures.low c.highs-high.ensures.high c.raised.ensures
