@@ -133,19 +133,21 @@ forms_are v table zs columns forms e c h = h ∙ (λ i. map (λ (z : ConstraintS
 pub degree_is : (v d : ℕ) (table : TableShape) (zs : List ConstraintShape) → zs ≡ table.constraints → d ≡ greatest (map (λ (z : ConstraintShape). z.degree) (of_width v zs)) → d ≡ greatest (map (λ (z : ConstraintShape). z.degree) (group v table))
 degree_is v d table zs e h = h ∙ ap (λ ws. greatest (map (λ (z : ConstraintShape). z.degree) (of_width v ws))) e
 
-pub record Kept (columns : List ℕ) (forms : List Tree) (d n : ℕ) : Type 0 where
+pub record Kept (columns : List ℕ) (forms : List Tree) (d v n : ℕ) : Type 0 where
   pub some : 1 ≤ length forms
   pub low : d ≤ 8
   pub few : n ≤ 32
+  pub within : v ≤ n
   pub short : length columns < 2 ^ 32
   pub below : AllByRecursion (λ (f : Tree). VariablesBelow (length columns) (form_of f)) forms
 
 pub kept_is : (shape : ShapeParts) (t v rows : ℕ) (table : TableShape) → IsReady shape t v rows table → rows ≤ 1048576 → (columns : List ℕ) (forms : List Tree) (d l : ℕ) → columns ≡ columns_in v table
-    → forms ≡ map (λ (z : ConstraintShape). form_on (columns_in v table) z.expr) (group v table) → d ≡ greatest (map (λ (z : ConstraintShape). z.degree) (group v table)) → l ≡ ceil_log rows → Kept columns forms d (l + v)
+    → forms ≡ map (λ (z : ConstraintShape). form_on (columns_in v table) z.expr) (group v table) → d ≡ greatest (map (λ (z : ConstraintShape). z.degree) (group v table)) → l ≡ ceil_log rows → Kept columns forms d v (l + v)
 kept_is shape t v rows table r m columns forms d l c f e w = record {
   some = let a = ap length f in let b = length-map (group v table) (λ (z : ConstraintShape). form_on (columns_in v table) z.expr) in let s = r.some in omega arith;
   low = let s = r.low in omega arith;
   few = let s = rows_small rows m in let q = r.values in omega arith;
+  within = omega arith;
   short = let a = ap length c in let s = r.short in omega arith;
   below = subst (λ (cs : List ℕ). AllByRecursion (λ (x : Tree). VariablesBelow (length cs) (form_of x)) forms) (sym c)
       (subst (λ (fs : List Tree). AllByRecursion (λ (x : Tree). VariablesBelow (length (columns_in v table)) (form_of x)) fs) (sym f) r.below);

@@ -4,3 +4,4 @@ pub mod FirstLaws
 pub mod GroupSteps
 pub mod StepsBelow
 pub mod WalkSteps
+pub mod ProverSteps

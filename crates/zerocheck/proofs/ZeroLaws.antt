@@ -192,7 +192,7 @@ sum_final F t z f =
     ((λ i. mul (steps_at F g z f.0 f.1.1.within i) (value-moved (batch_form t.beta (forms g)) (extension (row_steps g) z) ends i))
     ∙ ap (mul (step_down g.rows (drop g.log_values z))) (batch_form_value t.beta (forms g) ends))
 
-told : (F : Filling) (t : ℕ) (z cs : List ℕ) → AllByRecursion (ColumnHolds F) (column_claims t z cs (map (λ list. extension list z) (map (F t) cs)))
+pub told : (F : Filling) (t : ℕ) (z cs : List ℕ) → AllByRecursion (ColumnHolds F) (column_claims t z cs (map (λ list. extension list z) (map (F t) cs)))
 told F t z [] = tt
 told F t z (c ∷ cs) = (refl, told F t z cs)
 

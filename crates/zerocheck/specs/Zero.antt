@@ -70,6 +70,10 @@ pub record Zeroed : Type 0 where
 abbrev pub zeroed_sum : Filling → Zeroed → Sum
 zeroed_sum F t = eq_sum t.point (on_rows (batch_form t.beta (forms t.group))) (lists F t.group)
 
+-- its form
+abbrev pub zero_form : Zeroed → Form
+zero_form t = times (variable 0) (moved (on_rows (batch_form t.beta (forms t.group))))
+
 -- a claim on each column, at one point
 abbrev pub column_claims : ℕ → List ℕ → List ℕ → List ℕ → List ColumnClaim
 column_claims table z [] vs = []

@@ -52,7 +52,7 @@ impl Model for Group {
 
     ghost view = { λ g. record { table = g.table; log_values = g.log_values; rows = g.rows; vars = g.vars; degree = g.degree; columns = g.columns.items; constraints = g.constraints.items } };
 
-    ghost invariant = { λ g. record { some : 1 ≤ length g.constraints.items; low : g.degree ≤ 8; few : g.vars ≤ 32; short : length g.columns.items < 2 ^ 32; below : AllByRecursion (λ (f : Tree). VariablesBelow (length g.columns.items) (form_of f)) g.constraints.items } };
+    ghost invariant = { λ g. record { some : 1 ≤ length g.constraints.items; low : g.degree ≤ 8; few : g.vars ≤ 32; within : g.log_values ≤ g.vars; short : length g.columns.items < 2 ^ 32; below : AllByRecursion (λ (f : Tree). VariablesBelow (length g.columns.items) (form_of f)) g.constraints.items } };
 }
 
 /// Whether some constraint of the group names a column.
@@ -146,6 +146,35 @@ fn table_at(shape: &Shape, table: u32) -> &TableShape
     &shape.tables()[table as usize]
 }
 
+/// Appends a claim on each column of a table, at one point.
+pub fn tell(
+    table: u32,
+    columns: &[u32],
+    point: &[B128],
+    values: &[B128],
+    points: &mut Points,
+    claims: &mut Vec<ColumnClaim>,
+)
+    requires equal { length values.now ≡ length columns.now }
+    requires many { length columns.now ≤ points.old.count }
+    requires short { length point.now ≤ points.old.vars }
+    requires space { length claims.old.items + length columns.now ≤ vec_capacity claims.old }
+    ensures claims { claims.new.items ≡ claims.old.items ++ column_claims table point.now columns.now values.now }
+    ensures vars { points.new.vars ≡ points.old.vars }
+{
+    for i in 0..values.len() {
+        let claim = ColumnClaim {
+            table,
+            column: columns[i],
+            point: points.copy(point),
+            value: values[i],
+        };
+        if claims.push(claim).is_err() {
+            unreachable!();
+        }
+    }
+}
+
 impl Group {
     /// That of a table's constraints of that many values per row, on a number of rows.
     pub(crate) fn of(
@@ -198,16 +227,13 @@ impl Group {
         ensures vars { points.new.vars ≡ points.old.vars }
         ensures few { length self.now.columns < 2 ^ 32 }
     {
-        for i in 0..values.len() {
-            let claim = ColumnClaim {
-                table: self.table,
-                column: self.columns[i],
-                point: points.copy(point),
-                value: values[i],
-            };
-            if claims.push(claim).is_err() {
-                unreachable!();
-            }
-        }
+        tell(
+            self.table,
+            self.columns.as_slice(),
+            point,
+            values,
+            points,
+            claims,
+        );
     }
 }

@@ -3,18 +3,22 @@
 
 #![tactic(auto)]
 
+mod ending;
 mod expressions;
 mod group;
 mod laws;
 mod no_memory;
+mod opening;
 mod points;
 mod row_steps;
+mod zero_prover;
 mod zero_walk;
 mod zeroed;
 
 pub use group::Group;
 pub use laws::zeros_keep_truth;
 pub use no_memory::NoMemory;
+pub use zero_prover::ZeroProver;
 pub use zero_walk::ZeroWalk;
 pub use zeroed::Zeroed;
 

@@ -12,6 +12,12 @@ impl From<AllocError> for NoMemory {
     }
 }
 
+impl From<cube_mle::NoMemory> for NoMemory {
+    fn from(_: cube_mle::NoMemory) -> NoMemory {
+        NoMemory
+    }
+}
+
 impl From<sumcheck::NoMemory> for NoMemory {
     fn from(_: sumcheck::NoMemory) -> NoMemory {
         NoMemory

@@ -9,7 +9,7 @@ use poly_forms::{CheckKind, DrawKind};
 use sqlite_items::Items;
 use std::alloc::Global;
 use std::marker::Model;
-use sumcheck::{ColumnClaim, SumOf, SumTerms};
+use sumcheck::{ColumnClaim, SumOf, SumTerms, Summand};
 use tower_field::{B128, Tower};
 
 /// A group, the draw that joins its constraints, and the coordinates that were drawn.
@@ -127,5 +127,18 @@ impl SumTerms for Zeroed {
         let group = &self.group;
         let steps = row_steps_at(group.rows, group.log_values, point);
         eq_at(self.point.as_slice(), point) * (steps * group.batch_at(values, self.beta))
+    }
+}
+
+impl Summand for Zeroed {
+    ghost use Rattle.std.specs.Prelude.{◌≡◌, ◌+◌, length};
+    ghost use Rattle.zerocheck.specs.Zero.{zero_form};
+
+    ghost form = { zero_form };
+
+    ghost suits = { λ t n. n ≡ length t.group.columns + 2 };
+
+    fn value_at(&self, row: &[B128]) -> B128 {
+        row[0] * (row[1] * self.group.batch_at(&row[2..], self.beta))
     }
 }

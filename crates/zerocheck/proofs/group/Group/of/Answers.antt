@@ -29,7 +29,7 @@ invariant_of-result c =
     let fs = forms_are v table zs c.as_slice.result.now c.in_ok-forms.forms.items c.as_slice-constraints.ensures (c.as_slice.ensures.value ∙ cs) c.in_ok-forms.ensures in
     let d = degree_is v c.greatest_degree.result table zs c.as_slice-constraints.ensures c.greatest_degree.ensures in
     let k = kept_is c.args.shape.now c.args.table v c.args.rows table r c.requires.few c.in_ok-columns.columns.items c.in_ok-forms.forms.items c.greatest_degree.result c.ceil_log.result cs fs d (c.ceil_log.ensures ∙ ap ceil_log c.from.ensures) in
-    record { some = k.some; low = k.low; few = k.few; short = k.short; below = k.below }
+    record { some = k.some; low = k.low; few = k.few; within = k.within; short = k.short; below = k.below }
 
 pub returns : goal.returns
 returns c =
