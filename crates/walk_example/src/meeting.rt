@@ -50,6 +50,7 @@ pub fn meet<P: Honest>(
     requires { (F : Filling) × P.follows prover.old F walk.old }
     ensures count { IfOk result (λ met. length (P.Walk.machine.entries walk.old) ≡ met.0 + length (P.Walk.machine.entries walk.new)) }
     ensures ends { IfOk result (λ met. met.1 ≡ is_none (first_entry (P.Walk.machine.entries walk.new))) }
+    ensures follows { IfOk result (λ met. met.1 ≡ true → (F : Filling) → P.follows prover.old F walk.old → P.follows prover.new F walk.new) }
     ensures true_passes { IfOk result (λ met. (F : Filling) → P.follows prover.old F walk.old → IsTrueOf P.Walk.machine F walk.old → met.1 ≡ false → met.0 ≡ most) }
 {
     for k in 0..most {
