@@ -1,0 +1,5 @@
+pub mod Filtered
+pub mod Falling
+pub mod Numbered
+pub mod Standing
+pub mod PlaceSteps

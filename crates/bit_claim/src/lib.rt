@@ -1,0 +1,10 @@
+//! The claim of bits: where the bits of the committed columns stand in one table.
+#![tactic(auto)]
+
+mod laws;
+mod placement;
+#[cfg(test)]
+mod tests;
+
+pub use laws::blocks_stand_apart;
+pub use placement::{Block, Placement, place};
