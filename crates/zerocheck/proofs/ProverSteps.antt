@@ -1,7 +1,5 @@
 -- Steps of the prover.
-use Rattle.std.proofs.Common.{◌≡◌, ◌∙◌, ℕ, zero, suc, ◌+◌, ◌-◌, ◌^◌, ◌<◌, Option, Some, None, List, [], ◌∷◌, ◌++◌, map, drop, length, get_or, slice_get, unwrap_or, refl, sym, ap, subst, arith, length-append, Bool, false, is_some}
-use Rattle.std.proofs.lemmas.Option.{same_Some}
-use Rattle.std.specs.List.{AllByRecursion}
+use Rattle.std.proofs.Common.{◌≡◌, ◌∙◌, ℕ, zero, suc, ◌+◌, ◌-◌, ◌^◌, ◌<◌, Option, Some, None, List, [], ◌∷◌, ◌++◌, map, drop, length, get_or, unwrap_or, refl, sym, ap, subst, arith, length-append, Bool, false, is_some}
 use Rattle.tower_laws.specs.Tower.{mul}
 use Rattle.poly_laws.specs.Polynomial.{horner}
 use Rattle.cube_laws.specs.Extension.{extension, fold_all, fold_low, weights}
@@ -13,14 +11,12 @@ use Rattle.cube_laws.proofs.Positions.{value-moved}
 use Rattle.cube_laws.proofs.Weights.{length-tabulate}
 use Rattle.batch_laws.specs.Batch.{batch_form}
 use Rattle.batch_laws.proofs.Batching.{batch_form_value}
-use Rattle.sumcheck.specs.declared.column_claim.ColumnClaim.{ColumnClaim}
 use Rattle.sumcheck.specs.declared.column_tables.ColumnTable.{ColumnTable}
-use Rattle.sumcheck.specs.Column.{ColumnHolds}
 use Rattle.sumcheck.specs.Machine.{Filling, AwaitsSome, AwaitsDraw}
 use Rattle.sumcheck.specs.Rounds.{Rounds, sum_claim, round_claim, rounds_draw, true_round, with_claim, claimed}
 use Rattle.sumcheck.specs.Summing.{adding, closed, summed_entries, summed_honest, summed_message}
 use Rattle.sumcheck.specs.Proving.{Proving, Goes, sum_of}
-use Rattle.sumcheck.proofs.Following.{draw_left, draw_sets, goes_first, goes_passed, goes_round}
+use Rattle.sumcheck.proofs.Following.{draw_sets, goes_first, goes_passed, goes_round}
 use Rattle.zerocheck.specs.declared.zero_prover.ZeroProver.{ZeroProver}
 use Rattle.zerocheck.specs.declared.zero_walk.Stage.{Stage}
 use Rattle.zerocheck.specs.declared.zero_walk.Stage.TheVariants.{Stated, Drawing}
@@ -28,7 +24,7 @@ use Rattle.zerocheck.specs.Ending.{Ending, untold}
 use Rattle.zerocheck.specs.Given.{AreThere, IsThere, given_lists}
 use Rattle.zerocheck.specs.Group.{Group, forms}
 use Rattle.zerocheck.specs.Opening.{CanDraw, Opening, drawn}
-use Rattle.zerocheck.specs.Zero.{Zero, Zeroed, column_claims, columns_of, on_rows, row_steps, stated, summed, vector, waiting, zero_draw, zero_entries, zero_form, zero_honest, zero_message, zero_sum, zeroed_sum, zeroing}
+use Rattle.zerocheck.specs.Zero.{Zero, Zeroed, column_claims, columns_of, on_rows, row_steps, stated, summed, vector, waiting, zero_draw, zero_entries, zero_form, zero_sum, zeroed_sum, zeroing}
 use Rattle.zerocheck.specs.ZeroProver.{FollowsEnd, FollowsSum, GoesOn, Holds, IsDrawn, undrawn}
 use Rattle.zerocheck.proofs.ZeroLaws.{told}
 
@@ -50,11 +46,6 @@ pub claims_count : (t : ℕ) (z cs v : List ℕ) → length v ≡ length cs → 
 claims_count t z [] v l = refl
 claims_count t z (c ∷ cs) [] l = absurd (omega arith)
 claims_count t z (c ∷ cs) (x ∷ v) l = ap suc (claims_count t z cs v (omega arith))
-
-pub claim_holds : (F : Filling) (i : ℕ) (cs : List ColumnClaim) (c : ColumnClaim) → AllByRecursion (ColumnHolds F) cs → slice_get cs i ≡ Some c → ColumnHolds F c
-claim_holds F i [] c h e = absurd cc
-claim_holds F zero (d ∷ cs) c h e = subst (ColumnHolds F) (same_Some d c e) h.0
-claim_holds F (suc i) (d ∷ cs) c h e = claim_holds F i cs c h.1 e
 
 -- ---- the lists that are given
 pub column_there : (tables : List ColumnTable) (t n i : ℕ) (cs : List ℕ) → AreThere tables t n cs → i < length cs → IsThere tables t n (get_or cs i 0)
@@ -156,25 +147,6 @@ draw_opens p next o new c a b e F (summed (adding t (round_claim d n z v))) h w 
 draw_opens p next o new c a b e F (summed (closed cs)) h w = absurd h
 
 -- ---- a draw after a round
-pub record CanBind (p : Proving Zeroed) (e : Ending) : Type 0 where
-  pub left : 0 < p.left
-  pub room : length e.point < e.vars
-
-can_bind : (p : Proving Zeroed) (e : Ending) (F : Filling) (t : Zeroed) (r : Rounds) → GoesOn p e F t r → AwaitsDraw (summed_entries zero_sum (adding t r)) → CanBind p e
-can_bind p e F t (sum_claim d zero z c) h w = absurd w
-can_bind p e F t (sum_claim d (suc n) z c) h w = absurd w
-can_bind p e F t (round_claim d n z v) h w = record {
-  left = draw_left zero_sum zero_form p F t (round_claim d n z v) h.goes w;
-  room = subst (λ (x : Ending). length x.point < x.vars) (sym h.ending) (let l = h.vars in omega arith);
-}
-
-pub bind_facts : (now : ZeroProver) (p : Proving Zeroed) (F : Filling) (s : Zero) → FollowsSum now (Some p) F s → AwaitsDraw (zero_entries s) → CanBind p now.ending
-bind_facts now p F (waiting g) h w = absurd h
-bind_facts now p F (stated g) h w = absurd h
-bind_facts now p F (vector g a z n) h w = absurd h
-bind_facts now p F (summed (adding t r)) h w = can_bind p now.ending F t r h w
-bind_facts now p F (summed (closed cs)) h w = absurd w
-
 abbrev bound_by : ℕ → Ending → Ending
 bound_by c e = record e { point = e.point ++ c ∷ [] }
 
@@ -201,33 +173,6 @@ draw_goes_on now next p q c a b F (summed (closed cs)) h w = absurd w
 abbrev pub Gives : Proving Zeroed → Ending → Proving Zeroed → Ending → List ℕ → List ℕ → Type 0
 Gives p e q f old new = (F : Filling) (t : Zeroed) (r : Rounds) → GoesOn p e F t r → AwaitsSome (summed_entries zero_sum (adding t r))
     → (new ≡ old ++ summed_honest zero_sum F (adding t r)) × FollowsEnd q f F (summed_message zero_sum (adding t r) (summed_honest zero_sum F (adding t r)))
-
--- where it may be called
-abbrev pub CanGive : Proving Zeroed → Ending → Type 0
-CanGive p e = (F : Filling) × (t : Zeroed) × (r : Rounds) × (_ : GoesOn p e F t r) × AwaitsSome (summed_entries zero_sum (adding t r))
-
-pub give_facts : (now : ZeroProver) (p : Proving Zeroed) (F : Filling) (s : Zero) → FollowsSum now (Some p) F s → AwaitsSome (zero_entries s) → CanGive p now.ending
-give_facts now p F (waiting g) h w = absurd h
-give_facts now p F (stated g) h w = absurd h
-give_facts now p F (vector g a z n) h w = absurd h
-give_facts now p F (summed (adding t r)) h w = (F, t, r, h, w)
-give_facts now p F (summed (closed cs)) h w = absurd w
-
-pub message_values : (now : ZeroProver) (p q : Proving Zeroed) (f : Ending) (old new : List ℕ) → Gives p now.ending q f old new
-    → (F : Filling) (s : Zero) → FollowsSum now (Some p) F s → AwaitsSome (zero_entries s) → new ≡ old ++ zero_honest F s
-message_values now p q f old new g F (waiting k) h w = absurd h
-message_values now p q f old new g F (stated k) h w = absurd h
-message_values now p q f old new g F (vector k a z n) h w = absurd h
-message_values now p q f old new g F (summed (adding t r)) h w = (g F t r h w).0
-message_values now p q f old new g F (summed (closed cs)) h w = absurd w
-
-pub message_follows : (now next : ZeroProver) (p q : Proving Zeroed) (old new : List ℕ) → Gives p now.ending q next.ending old new
-    → (F : Filling) (s : Zero) → FollowsSum now (Some p) F s → AwaitsSome (zero_entries s) → FollowsSum next (Some q) F (zero_message s (zero_honest F s))
-message_follows now next p q old new g F (waiting k) h w = absurd h
-message_follows now next p q old new g F (stated k) h w = absurd h
-message_follows now next p q old new g F (vector k a z n) h w = absurd h
-message_follows now next p q old new g F (summed (adding t r)) h w = (g F t r h w).1
-message_follows now next p q old new g F (summed (closed cs)) h w = absurd w
 
 -- a round
 pub round_gives : (p q : Proving Zeroed) (e : Ending) (old new : List ℕ) → 0 < p.left → ((n : ℕ) → p.left ≡ suc n → new ≡ old ++ true_round (sum_of zero_form p) p.degree n []) → q ≡ p → Gives p e q e old new
