@@ -1,5 +1,5 @@
 -- Steps of making a group from a shape.
-use Rattle.std.proofs.Common.{◌≡◌, ◌∙◌, ℕ, suc, ◌+◌, ◌<◌, ◌≤◌, ◌==◌, ◌++◌, ◌^◌, cond, Bool, true, false, List, [], ◌∷◌, drop, length, map, get_or, slice_get, Option, Some, None, IsSome, option_and_then, bit_xor, refl, sym, ap, subst, arith}
+use Rattle.std.proofs.Common.{◌≡◌, ◌∙◌, ℕ, suc, ◌+◌, ◌<◌, ◌≤◌, ◌==◌, ◌++◌, ◌^◌, cond, Bool, true, false, List, [], ◌∷◌, drop, length, map, get_or, slice_get, Option, Some, None, IsSome, is_some, option_and_then, ◌||◌, bit_xor, refl, sym, ap, subst, arith}
 use Rattle.std.specs.List.{AllByRecursion, filter, list_any}
 use Rattle.std.proofs.lemmas.Bool.{eq-eqb}
 use Rattle.std.proofs.lemmas.Option.{same_Some}
@@ -174,3 +174,16 @@ pub first_group : (tables : List TableShape) (rows t : ℕ) (table : TableShape)
 first_group tables rows t table z e f =
     let made = group_made_at rows (length table.columns) t table.constraints z f in
     (made.0, ap (λ o. option_and_then (λ (y : TableShape). group_where t z.log_values rows (length y.columns) (group z.log_values y)) o) e ∙ made.1)
+
+-- ---- whether there is one
+where_some : (t v rows n : ℕ) (zs : List ConstraintShape) → is_some (group_where t v rows n (filter (λ (z : ConstraintShape). z.log_values == v) zs)) ≡ list_any (λ (z : ConstraintShape). z.log_values == v) zs
+where_some t v rows n [] = refl
+where_some t v rows n (z ∷ zs) =
+    let rest = filter (λ (y : ConstraintShape). y.log_values == v) zs in
+    elim (z.log_values == v) as (λ b. is_some (group_where t v rows n (cond b (z ∷ rest) rest)) ≡ (b || list_any (λ (y : ConstraintShape). y.log_values == v) zs)) [ true ↦ refl | false ↦ where_some t v rows n zs ]
+
+pub group_there : (tables : List TableShape) (rows t v : ℕ) (table : TableShape) → slice_get tables t ≡ Some table → is_some (group_of tables rows t v) ≡ list_any (λ (z : ConstraintShape). z.log_values == v) table.constraints
+group_there tables rows t v table e = ap (λ (o : Option TableShape). is_some (where_at t v rows o)) e ∙ where_some t v rows (length table.columns) table.constraints
+
+pub none_there : (tables : List TableShape) (rows t v : ℕ) → slice_get tables t ≡ None → is_some (group_of tables rows t v) ≡ false
+none_there tables rows t v e = ap (λ (o : Option TableShape). is_some (where_at t v rows o)) e

@@ -1,6 +1,6 @@
 //! Groups of constraints.
 
-ghost use Rattle.std.specs.Prelude.{◌≡◌, ◌<◌, ◌≤◌, ◌==◌, ◌+◌, ◌^◌, ◌++◌, length, map, slice_get, vec_capacity, IfOk, IsSome, Some};
+ghost use Rattle.std.specs.Prelude.{◌≡◌, ℕ, ◌<◌, ◌≤◌, ◌==◌, ◌+◌, ◌^◌, ◌++◌, length, map, slice_get, vec_capacity, is_some, IfOk, IsSome, Some};
 ghost use Rattle.std.specs.List.{AllByRecursion, filter, list_any};
 ghost use Rattle.tower_laws.specs.Tower.{mul};
 ghost use Rattle.poly_laws.specs.Polynomial.{horner};
@@ -18,6 +18,7 @@ use crate::expressions::{form_on, names};
 use crate::no_memory::NoMemory;
 use crate::points::Points;
 use poly_forms::Form;
+use sqlite_items::at;
 use std::alloc::Global;
 use std::marker::Model;
 use sumcheck::ColumnClaim;
@@ -134,6 +135,28 @@ fn batch_of(forms: &[Form], values: &[B128], beta: B128) -> B128
         sum = forms[i].eval(values) + beta * sum;
     }
     sum
+}
+
+/// Whether some constraint has `2 ^ log_values` values per row.
+fn some_wide(constraints: &[ConstraintShape], log_values: u32) -> bool
+    ensures { result ≡ list_any (λ (z : Constraint). z.log_values == log_values) constraints.now }
+{
+    for constraint in constraints {
+        if constraint.log_values == log_values {
+            return true;
+        }
+    }
+    false
+}
+
+/// Whether a table has a constraint of `2 ^ log_values` values per row.
+pub fn has_group(shape: &Shape, table: u32, log_values: u32) -> bool
+    ensures { (rows : ℕ) → result ≡ is_some (group_of shape.now.tables rows table log_values) }
+{
+    let Some(of) = at(shape.tables(), table as usize) else {
+        return false;
+    };
+    some_wide(of.constraints.as_slice(), log_values)
 }
 
 /// A table that is there.

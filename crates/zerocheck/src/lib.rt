@@ -15,7 +15,7 @@ mod zero_prover;
 mod zero_walk;
 mod zeroed;
 
-pub use group::Group;
+pub use group::{Group, has_group};
 pub use laws::zeros_keep_truth;
 pub use no_memory::NoMemory;
 pub use zero_prover::ZeroProver;
