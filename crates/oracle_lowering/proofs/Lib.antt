@@ -1,2 +1,4 @@
 pub mod Flushed
 pub mod Satisfied
+pub mod ProductSteps
+pub mod Decided

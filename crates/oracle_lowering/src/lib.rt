@@ -2,5 +2,11 @@
 #![tactic(auto)]
 
 mod laws;
+mod leaf;
+mod lowered;
+mod products;
+mod side;
 
 pub use laws::satisfied_is_lowered;
+pub use lowered::{Lowered, lower};
+pub use products::{Pair, Pairs, Products, products_at};
