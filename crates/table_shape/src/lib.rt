@@ -18,8 +18,6 @@ mod resolving;
 mod shape;
 mod size;
 mod size_stop;
-#[cfg(test)]
-mod tests;
 mod width;
 
 pub use fault::{ShapeFault, ShapeKind, ShapeStop};

@@ -1,10 +1,10 @@
 //! Shapes of texts, with their names, copies and sizes.
 
-use super::*;
 use sqlite_items::at;
 use std::alloc::{AllocError, Global};
 use std::process::Abort;
 use std::test::Fail;
+use table_shape::{Shape, ShapeFault, ShapeKind, ShapeStop, resolve};
 use table_text::{Side, read_tables};
 
 const TWO: &[u8] =
