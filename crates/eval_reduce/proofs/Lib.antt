@@ -1,5 +1,6 @@
 pub mod Lawful
 pub mod Steps
+pub mod EndingSteps
 pub mod ProverSteps
 pub mod ProjectLaws
 pub mod LinearLaws
@@ -8,3 +9,5 @@ pub mod VirtualSteps
 pub mod ShiftLaws
 pub mod FilledForms
 pub mod ShiftSteps
+pub mod LinearSteps
+pub mod PackSteps

@@ -34,7 +34,7 @@ claims_fit F claim t [] vs e h = tt
 claims_fit F claim t (x ∷ ts) [] e h = tt
 claims_fit F claim t (x ∷ ts) (v ∷ vs) e h = (ap (λ t. length (F t x.column)) e ∙ h.0, claims_fit F claim t ts vs e h.1)
 
-claims_told : (F : Filling) (claim : ColumnClaim) (t : ℕ) (ts : List ShapeTerm) → claim.table ≡ t → AllByRecursion (ColumnHolds F) (term_claims claim ts (map (λ c. extension c claim.point) (term_lists F t ts)))
+pub claims_told : (F : Filling) (claim : ColumnClaim) (t : ℕ) (ts : List ShapeTerm) → claim.table ≡ t → AllByRecursion (ColumnHolds F) (term_claims claim ts (map (λ c. extension c claim.point) (term_lists F t ts)))
 claims_told F claim t [] e = tt
 claims_told F claim t (x ∷ ts) e = (ap (λ t. extension (F t x.column) claim.point) e, claims_told F claim t ts e)
 
@@ -46,7 +46,7 @@ claims_tell F claim t (x ∷ ts) [] e l h = absurd (omega arith)
 claims_tell F claim t (x ∷ ts) (v ∷ vs) e l h =
     (λ i. (sym (ap (λ t. extension (F t x.column) claim.point) e) ∙ h.0) i ∷ claims_tell F claim t ts vs e (omega arith) h.1 i)
 
-length-values : (F : Filling) (z : List ℕ) (t : ℕ) (ts : List ShapeTerm) → length (map (λ c. extension c z) (term_lists F t ts)) ≡ length ts
+pub length-values : (F : Filling) (z : List ℕ) (t : ℕ) (ts : List ShapeTerm) → length (map (λ c. extension c z) (term_lists F t ts)) ≡ length ts
 length-values F z t [] = refl
 length-values F z t (x ∷ ts) = ap suc (length-values F z t ts)
 

@@ -43,7 +43,7 @@ listing_entries : (f : Packing) (z p v : List ℕ) (n : ℕ) → pack_entries (l
 listing_entries f z p v zero = refl
 listing_entries f z p v (suc n) = refl
 
-length-corners : (table : List ℕ) (k : ℕ) (z : List ℕ) → length (corner_values table k z) ≡ 2 ^ k
+pub length-corners : (table : List ℕ) (k : ℕ) (z : List ℕ) → length (corner_values table k z) ≡ 2 ^ k
 length-corners table k z = length-tabulate (2 ^ k) (λ u. extension table (bits_of k u ++ z))
 
 -- what a list owes, also at its end
@@ -62,7 +62,7 @@ one_value (x ∷ []) l = refl
 one_value (x ∷ y ∷ v) l = absurd (omega arith)
 
 -- a list is true where its values are those at the corners, folded
-all_set : (F : Filling) (f : Packing) (z p : List ℕ) → length p ≡ f.log → fold_all p (corner_values (F f.table f.source) f.log z) ≡ extension (F f.table f.source) (p ++ z) ∷ []
+pub all_set : (F : Filling) (f : Packing) (z p : List ℕ) → length p ≡ f.log → fold_all p (corner_values (F f.table f.source) f.log z) ≡ extension (F f.table f.source) (p ++ z) ∷ []
 all_set F f z p l = ap (λ k. fold_all p (corner_values (F f.table f.source) k z)) (sym l) ∙ fold_list (F f.table f.source) p z
 
 listing_holds : (F : Filling) (f : Packing) (z p v : List ℕ) (n : ℕ) → IsListed F f z p v n → fold_all p (corner_values (F f.table f.source) f.log z) ≡ v → PackHolds F (listing f z p v n)

@@ -1,11 +1,11 @@
 -- Steps of the prover.
-use Rattle.std.proofs.Common.{◌≡◌, ℕ, zero, suc, ◌+◌, ◌-◌, ◌^◌, ◌<◌, ◌≤◌, Option, Some, None, List, [], ◌∷◌, ◌++◌, map, length, drop, get_or, bit_xor, refl, sym, ◌∙◌, ap, subst, arith}
+use Rattle.std.proofs.Common.{◌≡◌, ℕ, zero, suc, ◌+◌, ◌-◌, ◌^◌, ◌<◌, ◌≤◌, Option, Some, None, List, [], ◌∷◌, ◌++◌, map, length, drop, get_or, bit_xor, refl, sym, ◌∙◌, ap, subst, arith, append-nil}
 use Rattle.std.specs.List.{AllByRecursion}
 use Rattle.tower_laws.specs.Tower.{mul}
 use Rattle.tower_laws.specs.Lists.{sums}
-use Rattle.cube_laws.specs.Extension.{weights, fold_low}
+use Rattle.cube_laws.specs.Extension.{extension, weights, fold_low}
 use Rattle.cube_laws.specs.Sums.{tabulate}
-use Rattle.cube_laws.specs.SumClaim.{AllLong, row}
+use Rattle.cube_laws.specs.SumClaim.{AllLong}
 use Rattle.cube_laws.proofs.Folding.{length-weights}
 use Rattle.batch_laws.specs.Batch.{batched}
 use Rattle.batch_laws.proofs.Batching.{length-batched, long_weights}
@@ -13,14 +13,16 @@ use Rattle.sumcheck.specs.declared.column_claim.ColumnClaim.{ColumnClaim}
 use Rattle.sumcheck.specs.declared.summand.Pair.{Pair}
 use Rattle.sumcheck.specs.Machine.{Filling, AwaitsSome, AwaitsDraw}
 use Rattle.sumcheck.specs.Rounds.{Rounds, sum_claim, round_claim, with_claim, claimed}
-use Rattle.sumcheck.specs.Summing.{adding, closed, summed_entries, summed_honest, summed_message}
-use Rattle.sumcheck.specs.Proving.{Proving, Goes, Accompanies}
+use Rattle.sumcheck.specs.Summing.{adding, closed}
+use Rattle.sumcheck.specs.Proving.{Proving, Goes}
 use Rattle.sumcheck.specs.Pair.{pair_form}
 use Rattle.list_laws.proofs.Lists.{drop_here}
-use Rattle.sumcheck.proofs.Following.{goes_last, goes_first, draw_sets, draw_left}
-use Rattle.eval_reduce.specs.Merge.{Merge, waiting, opening, summed, Joined, joined_sum, merge_sum, points, merge_entries, merge_draw, merge_message, merge_honest}
+use Rattle.sumcheck.proofs.Following.{goes_last, goes_first, draw_left}
+use Rattle.eval_reduce.specs.Ending.{CanTell, Ending, Gives, GoesOn, Tells, drawn, second}
+use Rattle.eval_reduce.specs.Merge.{AllOn, Merge, merged, waiting, opening, summed, Joined, joined_sum, merge_sum, points, merge_entries, merge_draw, merge_message, merge_honest}
 use Rattle.eval_reduce.specs.declared.merge_prover.MergeProver.{MergeProver}
-use Rattle.eval_reduce.specs.Following.{Ready, Follows, FollowsSum, IsNew}
+use Rattle.eval_reduce.specs.Following.{Ready, Follows, FollowsSum, IsNew, on_column}
+use Rattle.eval_reduce.proofs.EndingSteps.{CanSet, can_set, can_tell, draw_kept, last_told, round_passes}
 
 pub tabulate_sums : (m : ℕ) (xs ys : List ℕ) → length ys ≡ length xs → tabulate (length ys) (λ j. bit_xor (get_or xs j 0) (mul m (get_or ys j 0))) ≡ sums xs (map (mul m) ys)
 tabulate_sums m [] [] l = refl
@@ -35,11 +37,6 @@ map_end i g [] (y ∷ ys) l e d = absurd (omega arith)
 map_end i g (x ∷ xs) [] l e d = absurd (omega arith)
 map_end i g (x ∷ xs) (y ∷ ys) l e d =
     (λ k. d 0 (omega arith) k ∷ map_end (i - 1) (λ j. g (suc j)) xs ys (omega arith) (omega arith) (λ j m. d (suc j) (omega arith)) k)
-
--- the last value of the column's table is the column's extension
-pub last_is : (F : Filling) (p : Proving Pair) (j : Joined) (d : ℕ) (z : List ℕ) (c v : ℕ) (finals : List ℕ) → finals ≡ row p.lists 0 → v ≡ get_or finals 1 v → Goes pair_form p (joined_sum F j) (sum_claim d zero z c) → v ∷ [] ≡ merge_sum.finals F j z
-last_is F p j d z c v finals e g h =
-    ap (λ v. v ∷ []) (g ∙ ap (λ fs. get_or fs 1 v) (e ∙ ap (λ ls. row ls 0) h.lists) ∙ sym (ap (λ ls. get_or (get_or ls 1 []) 0 0) h.lists) ∙ goes_last pair_form p (joined_sum F j) d 1 z c (omega arith) h)
 
 -- ---- lists that grow
 pub pushed : (n v : ℕ) (f : ℕ → ℕ) (old new : List ℕ) → old ≡ tabulate n f → new ≡ old ++ v ∷ [] → v ≡ f n → new ≡ tabulate (n + 1) f
@@ -93,7 +90,7 @@ pub start_facts : (p : MergeProver) (F : Filling) (s : Merge) → FollowsSum p N
 start_facts p F (waiting n o) h w = absurd h
 start_facts p F (opening t k n cs) h w = absurd w
 start_facts p F (summed (adding j r)) h w = ready_facts p j.mu F j.table j.column j.vars (points j.claims) h.0.0 h.1
-start_facts p F (summed (closed c)) h w = absurd w
+start_facts p F (summed (closed c)) h w = absurd h
 
 abbrev pub begun : ℕ → List ColumnClaim → ℕ → List ℕ → Proving Pair
 begun vars claims mu cells = record { summand = record {}; degree = 2; left = vars; lists = batched (2 ^ vars) mu (map weights (points claims)) ∷ cells ∷ [] }
@@ -101,6 +98,9 @@ begun vars claims mu cells = record { summand = record {}; degree = 2; left = va
 claimed_is : (n : ℕ) (r : Rounds) → with_claim 0 r ≡ sum_claim 2 n [] 0 → r ≡ sum_claim 2 n [] (claimed r)
 claimed_is n (sum_claim d m z c) h = let a : d ≡ 2 = cc in let b : m ≡ n = cc in let e : z ≡ [] = cc in cc
 claimed_is n (round_claim d m z v) h = absurd (cc)
+
+from_none : (n : ℕ) → 0 + n ≡ n
+from_none n = omega arith
 
 start_goes : (p : MergeProver) (mu : ℕ) (F : Filling) (j : Joined) (c : ℕ) → mu ≡ j.mu → Ready p F j.table j.column j.vars (points j.claims) → Goes pair_form (begun p.vars p.claims.items mu p.column.items) (joined_sum F j) (sum_claim 2 j.vars [] c)
 start_goes p mu F j c e h =
@@ -111,75 +111,91 @@ start_goes p mu F j c e h =
 same_draw : (x y : ℕ) (o : Option ℕ) → o ≡ Some x → o ≡ Some y → x ≡ y
 same_draw x y o a b = let e : Some x ≡ Some y = sym a ∙ b in cc
 
-pub start_follows : (p next : MergeProver) (mu : ℕ) (q : Proving Pair) → p.mu ≡ Some mu → q ≡ begun p.vars p.claims.items mu p.column.items → (F : Filling) (s : Merge)
+pub start_follows : (p next : MergeProver) (mu : ℕ) (q : Proving Pair) → p.mu ≡ Some mu → next.ending ≡ p.ending → q ≡ begun p.vars p.claims.items mu p.column.items → (F : Filling) (s : Merge)
     → FollowsSum p None F s → AwaitsSome (merge_entries s) → FollowsSum next (Some q) F s
-start_follows p next mu q m e F (waiting n o) h w = absurd h
-start_follows p next mu q m e F (opening t k n cs) h w = absurd w
-start_follows p next mu q m e F (summed (adding j r)) h w =
-    subst (λ q. Goes pair_form q (joined_sum F j) r) (sym e)
-    (subst (λ r. Goes pair_form (begun p.vars p.claims.items mu p.column.items) (joined_sum F j) r) (sym (claimed_is j.vars r h.0.1)) (start_goes p mu F j (claimed r) (same_draw mu j.mu p.mu m h.0.0) h.1))
-start_follows p next mu q m e F (summed (closed c)) h w = absurd w
+start_follows p next mu q m n e F (waiting v o) h w = absurd h
+start_follows p next mu q m n e F (opening t k v cs) h w = absurd w
+start_follows p next mu q m n e F (summed (closed c)) h w = absurd w
+start_follows p next mu q m n e F (summed (adding j r)) h w =
+    subst (λ q. GoesOn q next.ending (joined_sum F j) (on_column j) j.vars r) (sym e)
+    (subst (GoesOn (begun p.vars p.claims.items mu p.column.items) next.ending (joined_sum F j) (on_column j) j.vars) (sym (claimed_is j.vars r h.0.1))
+    (record { goes = start_goes p mu F j (claimed r) (same_draw mu j.mu p.mu m h.0.0) h.1; ending = n ∙ h.1.ending; vars = from_none j.vars }))
 
 -- ---- a draw
 pub draw_begins : (p next : MergeProver) (x : ℕ) → next ≡ record p { mu = Some x } → (F : Filling) (s : Merge) → FollowsSum p None F s → AwaitsDraw (merge_entries s) → FollowsSum next None F (merge_draw s x)
 draw_begins p next x e F (waiting n o) h w = absurd h
 draw_begins p next x e F (opening t k n cs) h w =
     subst (λ q. FollowsSum q None F (merge_draw (opening t k n cs) x)) (sym e)
-    ((refl, refl), record { few = h.few; all = h.all; at = h.at; placed = h.placed; held = h.held; whole = h.whole })
+    ((refl, refl), record { few = h.few; all = h.all; at = h.at; placed = h.placed; held = h.held; whole = h.whole; ending = h.ending })
 draw_begins p next x e F (summed (adding j (sum_claim d zero z c))) h w = absurd w
 draw_begins p next x e F (summed (adding j (sum_claim d (suc n) z c))) h w = absurd w
 draw_begins p next x e F (summed (adding j (round_claim d n z v))) h w = let e = h.0.1 in absurd (cc)
-draw_begins p next x e F (summed (closed c)) h w = absurd w
+draw_begins p next x e F (summed (closed c)) h w = absurd h
 
-pub draw_goes_on : (now next : MergeProver) (p q : Proving Pair) (x : ℕ) → q ≡ record p { left = p.left - 1; lists = map (fold_low x) p.lists }
+pub draw_goes_on : (now next : MergeProver) (p q : Proving Pair) (x : ℕ) → q ≡ record p { left = p.left - 1; lists = map (fold_low x) p.lists } → next.ending ≡ drawn now.ending (now.ending.draws ++ x ∷ [])
     → (F : Filling) (s : Merge) → FollowsSum now (Some p) F s → AwaitsDraw (merge_entries s) → FollowsSum next (Some q) F (merge_draw s x)
-draw_goes_on now next p q x e F (waiting n o) h w = absurd h
-draw_goes_on now next p q x e F (opening t k n cs) h w = absurd h
-draw_goes_on now next p q x e F (summed (adding j r)) h w = draw_sets merge_sum pair_form p q x e F j r h w
-draw_goes_on now next p q x e F (summed (closed c)) h w = absurd w
+draw_goes_on now next p q x a b F (waiting n o) h w = absurd h
+draw_goes_on now next p q x a b F (opening t k n cs) h w = absurd h
+draw_goes_on now next p q x a b F (summed (adding j r)) h w = draw_kept merge_sum p q now.ending next.ending (on_column j) j.vars x a b F j r h w
+draw_goes_on now next p q x a b F (summed (closed c)) h w = absurd w
 
-pub draw_possible : (now : MergeProver) (p : Proving Pair) (F : Filling) (s : Merge) → FollowsSum now (Some p) F s → AwaitsDraw (merge_entries s) → 0 < p.left
+pub draw_possible : (now : MergeProver) (p : Proving Pair) (F : Filling) (s : Merge) → FollowsSum now (Some p) F s → AwaitsDraw (merge_entries s) → (0 < p.left) × CanSet now.ending
 draw_possible now p F (waiting n o) h w = absurd h
 draw_possible now p F (opening t k n cs) h w = absurd h
-draw_possible now p F (summed (adding j r)) h w = draw_left merge_sum pair_form p F j r h w
+draw_possible now p F (summed (adding j r)) h w = (draw_left merge_sum pair_form p F j r h.goes w, can_set merge_sum p now.ending (on_column j) (joined_sum F j) j.vars j r refl (omega arith) h w)
 draw_possible now p F (summed (closed c)) h w = absurd w
 
 -- ---- a message
-pub two_lists : (now : MergeProver) (p : Proving Pair) (F : Filling) (s : Merge) → FollowsSum now (Some p) F s → AwaitsSome (merge_entries s) → length p.lists ≡ 2
-two_lists now p F (waiting n o) h w = absurd h
-two_lists now p F (opening t k n cs) h w = absurd h
-two_lists now p F (summed (adding j r)) h w = ap length h.lists
-two_lists now p F (summed (closed c)) h w = absurd w
+pub record CanGive (now : MergeProver) (p : Proving Pair) : Type 0 where
+  pub two : length p.lists ≡ 2
+  pub tells : p.left ≡ 0 → CanTell now.ending []
 
--- what `give` says
-abbrev pub Gives : Proving Pair → Proving Pair → List ℕ → List ℕ → Type 0
-Gives p q old new = (F : Filling) (j : Joined) (r : Rounds) → Goes pair_form p (joined_sum F j) r → AwaitsSome (summed_entries merge_sum (adding j r))
-    → (new ≡ old ++ summed_honest merge_sum F (adding j r)) × Accompanies merge_sum pair_form q F (summed_message merge_sum (adding j r) (summed_honest merge_sum F (adding j r)))
+pub can_give : (now : MergeProver) (p : Proving Pair) (F : Filling) (s : Merge) → FollowsSum now (Some p) F s → AwaitsSome (merge_entries s) → CanGive now p
+can_give now p F (waiting n o) h w = absurd h
+can_give now p F (opening t k n cs) h w = absurd h
+can_give now p F (summed (adding j r)) h w = record { two = ap length h.goes.lists; tells = can_tell p now.ending (on_column j) (joined_sum F j) j.vars [] r refl (omega arith) h }
+can_give now p F (summed (closed c)) h w = absurd w
 
-pub message_values : (now : MergeProver) (p q : Proving Pair) (old new : List ℕ) → Gives p q old new
+-- the second table's value is the column's extension
+column_value : (F : Filling) (p : Proving Pair) (j : Joined) (d : ℕ) (z : List ℕ) (c : ℕ) → Goes pair_form p (joined_sum F j) (sum_claim d zero z c) → second p ≡ extension (F j.table j.column) z
+column_value F p j d z c h = goes_last pair_form p (joined_sum F j) d 1 z c (omega arith) h
+
+pub message_values : (now next : MergeProver) (p : Proving Pair) (old new : List ℕ) → Gives p [] now.ending next.ending old new
     → (F : Filling) (s : Merge) → FollowsSum now (Some p) F s → AwaitsSome (merge_entries s) → new ≡ old ++ merge_honest F s
-message_values now p q old new g F (waiting n o) h w = absurd h
-message_values now p q old new g F (opening t k n cs) h w = absurd h
-message_values now p q old new g F (summed (adding j r)) h w = (g F j r h w).0
-message_values now p q old new g F (summed (closed c)) h w = absurd w
+message_values now next p old new g F (waiting n o) h w = absurd h
+message_values now next p old new g F (opening t k n cs) h w = absurd h
+message_values now next p old new g F (summed (closed c)) h w = absurd w
+message_values now next p old new g F (summed (adding j (sum_claim d zero z c))) h w =
+    (last_told p [] now.ending next.ending (on_column j) old new (joined_sum F j) j.vars d z c (extension (F j.table j.column) z) g h (column_value F p j d z c h.goes)).0
+message_values now next p old new g F (summed (adding j (sum_claim d (suc n) z c))) h w = (round_passes p [] now.ending next.ending (on_column j) old new (joined_sum F j) j.vars d n z c g h).0
+message_values now next p old new g F (summed (adding j (round_claim d n z v))) h w = absurd w
 
-pub message_follows : (now next : MergeProver) (p q : Proving Pair) (old new : List ℕ) → Gives p q old new
-    → (F : Filling) (s : Merge) → FollowsSum now (Some p) F s → AwaitsSome (merge_entries s) → FollowsSum next (Some q) F (merge_message s (merge_honest F s))
-message_follows now next p q old new g F (waiting n o) h w = absurd h
-message_follows now next p q old new g F (opening t k n cs) h w = absurd h
-message_follows now next p q old new g F (summed (closed c)) h w = absurd w
-message_follows now next p q old new g F (summed (adding j (sum_claim d zero z c))) h w = tt
-message_follows now next p q old new g F (summed (adding j (sum_claim d (suc n) z c))) h w = (g F j (sum_claim d (suc n) z c) h w).1
-message_follows now next p q old new g F (summed (adding j (round_claim d n z v))) h w = absurd w
+pub message_follows : (now next : MergeProver) (p : Proving Pair) (old new : List ℕ) → Gives p [] now.ending next.ending old new
+    → (F : Filling) (s : Merge) → FollowsSum now (Some p) F s → AwaitsSome (merge_entries s) → FollowsSum next (Some p) F (merge_message s (merge_honest F s))
+message_follows now next p old new g F (waiting n o) h w = absurd h
+message_follows now next p old new g F (opening t k n cs) h w = absurd h
+message_follows now next p old new g F (summed (closed c)) h w = absurd w
+message_follows now next p old new g F (summed (adding j (sum_claim d zero z c))) h w =
+    let v = extension (F j.table j.column) z in
+    let k = last_told p [] now.ending next.ending (on_column j) old new (joined_sum F j) j.vars d z c v g h (column_value F p j d z c h.goes) in
+    record { told = k.1 ∙ ap (λ z. Some (merged j z v)) (append-nil z); holds = refl }
+message_follows now next p old new g F (summed (adding j (sum_claim d (suc n) z c))) h w = (round_passes p [] now.ending next.ending (on_column j) old new (joined_sum F j) j.vars d n z c g h).1
+message_follows now next p old new g F (summed (adding j (round_claim d n z v))) h w = absurd w
+
+-- ---- at the end
+pub at_end : (p : MergeProver) (q : Option (Proving Pair)) (F : Filling) (c : ColumnClaim) → FollowsSum p q F (summed (closed c)) → Tells p.ending F c
+at_end p None F c h = absurd h
+at_end p (Some q) F c h = h
 
 -- ---- claims that are entered
 pub no_longer : (n m : ℕ) (cs : List ColumnClaim) → m ≡ n → AllLong n (points cs) → AllByRecursion (λ claim. length claim.point ≤ m) cs
 no_longer n m [] e h = tt
 no_longer n m (c ∷ cs) e h = let a = h.0 in (omega arith, no_longer n m cs e h.1)
 
-pub entered : (p next : MergeProver) (ps : List (List ℕ)) → IsNew p.vars p → next.vars ≡ p.vars → next.column.items ≡ p.column.items → next.sum ≡ None → points next.claims.items ≡ ps → AllLong p.vars ps
-    → (F : Filling) (t k : ℕ) (cs : List ColumnClaim) → points cs ≡ ps → F t k ≡ p.column.items → Follows next F (opening t k p.vars cs)
-entered p next ps new v l s a long F t k cs e f =
+pub entered : (p next : MergeProver) (ds : List ColumnClaim) → IsNew p.vars p → next.vars ≡ p.vars → next.column.items ≡ p.column.items → next.sum ≡ None → points next.claims.items ≡ points ds → AllLong p.vars (points ds)
+    → ((t k n : ℕ) → 0 < length ds → AllOn t k n ds → next.ending ≡ record p.ending { table = t; column = k })
+    → (F : Filling) (t k : ℕ) (cs : List ColumnClaim) → 0 < length ds → AllOn t k p.vars ds → points cs ≡ points ds → F t k ≡ p.column.items → Follows next F (opening t k p.vars cs)
+entered p next ds new v l s a long aimed F t k cs some on e f =
     subst (λ o. FollowsSum next o F (opening t k p.vars cs)) (sym s)
     (record {
       few = subst (λ n. n ≤ 32) (sym v) new.few;
@@ -188,4 +204,5 @@ entered p next ps new v l s a long F t k cs e f =
       placed = subst (λ ps. AllLong p.vars ps) (sym e) long;
       held = l ∙ sym f;
       whole = ap length f ∙ new.whole;
+      ending = aimed t k p.vars some on ∙ ap (λ (x : Ending). record x { table = t; column = k }) new.ending;
     })

@@ -1,5 +1,6 @@
 pub mod Merge
 pub mod Following
+pub mod Ending
 pub mod Room
 pub mod Virtual
 pub mod Project

@@ -5,6 +5,8 @@
 
 mod batch;
 mod combination;
+mod ending;
+mod giving;
 mod joined;
 mod laws;
 mod linear_prover;

@@ -1,21 +1,20 @@
 //! The prover of a merge.
 
-ghost use Rattle.std.specs.Prelude.{◌≡◌, ℕ, ◌≤◌, ◌^◌, ◌++◌, ◌∷◌, [], length, map, is_some, true, None, List, IfOk};
+ghost use Rattle.std.specs.Prelude.{◌≡◌, ℕ, ◌≤◌, ◌<◌, ◌^◌, ◌∷◌, [], length, map, is_some, true, List, IfOk};
 ghost use Rattle.tower_laws.specs.Tower.{mul};
 ghost use Rattle.tower_laws.specs.Lists.{sums};
 ghost use Rattle.cube_laws.specs.Extension.{weights};
-ghost use Rattle.cube_laws.specs.Sums.{tabulate};
 ghost use Rattle.cube_laws.specs.SumClaim.{AllLong};
 ghost use Rattle.batch_laws.specs.Batch.{batched, zeros};
 ghost use Rattle.sumcheck.specs.declared.column_claim.ColumnClaim.{ColumnClaim as Claim};
+ghost use Rattle.sumcheck.specs.Column.{ColumnHolds};
 ghost use Rattle.sumcheck.specs.Machine.{AwaitsSome, Filling};
-ghost use Rattle.sumcheck.specs.Pair.{pair_form};
-ghost use Rattle.sumcheck.specs.Proving.{Accompanies, Goes};
-ghost use Rattle.sumcheck.specs.Rounds.{Rounds};
-ghost use Rattle.sumcheck.specs.Summing.{adding, summed_entries, summed_honest, summed_message};
+ghost use Rattle.sumcheck.specs.Summing.{closed};
 ghost use Rattle.eval_reduce.specs.Following.{Follows, IsNew};
-ghost use Rattle.eval_reduce.specs.Merge.{Joined, Merge, merge_entries, merge_sum, joined_sum, opening, points};
+ghost use Rattle.eval_reduce.specs.Merge.{AllOn, Merge, merge_entries, opening, points, summed};
 
+use crate::ending::Ending;
+use crate::giving::give;
 use crate::merge_walk::MergeWalk;
 use crate::no_memory::NoMemory;
 use crate::room::Room;
@@ -24,7 +23,8 @@ use std::alloc::Global;
 use sumcheck::{ColumnClaim, Honest, Pair, SumProver, Tables128};
 use tower_field::{B128, Tower, Values};
 
-/// The prover of a merge, who makes the table of the claims' points with the first message.
+/// The prover of a merge, who makes the table of the claims' points with the first message, and has at
+/// the end the one claim with its true value.
 #[derive(Drop)]
 pub struct MergeProver {
     alloc: Global,
@@ -34,6 +34,7 @@ pub struct MergeProver {
     mu: Option<B128>,
     column: Vec<B128>,
     sum: Option<SumProver<Pair>>,
+    ending: Ending,
 }
 
 /// Each value times mu, plus that of the other table.
@@ -111,20 +112,15 @@ fn begin_sum(
     Ok(sum)
 }
 
-/// A round, or the last message.
-fn give(sum: &mut SumProver<Pair>, out: &mut Vec<B128>) -> Result<(), sumcheck::NoMemory>
-    requires { length sum.old.lists ≡ 2 }
-    ensures { IfOk result (λ _. (F : Filling) (j : Joined) (r : Rounds) → Goes pair_form sum.old (joined_sum F j) r → AwaitsSome (summed_entries merge_sum (adding j r)) → (out.new.items ≡ out.old.items ++ summed_honest merge_sum F (adding j r)) × Accompanies merge_sum pair_form sum.new F (summed_message merge_sum (adding j r) (summed_honest merge_sum F (adding j r)))) }
+/// The claim at the end is on the column of the claims.
+fn aim(ending: &mut Ending, claims: &[ColumnClaim])
+    ensures { (t k n : ℕ) → 0 < length claims.now → AllOn t k n claims.now → ending.new ≡ record ending.old { table = t; column = k } }
 {
-    if sum.left() > 0 {
-        sum.round(out)?;
-        return Ok(());
+    if claims.is_empty() {
+        return;
     }
-    let finals = sum.finals();
-    if out.push(finals[1]).is_err() {
-        return Err(sumcheck::NoMemory);
-    }
-    Ok(())
+    let first = &claims[0];
+    ending.aim(first.table, first.column);
 }
 
 impl MergeProver {
@@ -150,6 +146,7 @@ impl MergeProver {
             mu: None,
             column,
             sum: None,
+            ending: Ending::begin(alloc, 0, 0, vars as usize)?,
         })
     }
 
@@ -158,8 +155,9 @@ impl MergeProver {
         requires new { IsNew self.old.vars self.old }
         requires placed { AllLong self.old.vars (points claims.now) }
         requires room { length claims.now ≤ self.old.room.count }
-        ensures { (F : Filling) (t k : ℕ) (cs : List Claim) → points cs ≡ points claims.now → F t k ≡ self.old.column.items → Follows self.new F (opening t k self.old.vars cs) }
+        ensures { (F : Filling) (t k : ℕ) (cs : List Claim) → 0 < length claims.now → AllOn t k self.old.vars claims.now → points cs ≡ points claims.now → F t k ≡ self.old.column.items → Follows self.new F (opening t k self.old.vars cs) }
     {
+        aim(&mut self.ending, claims);
         let copies = self.room.fill(claims);
         self.claims = copies;
     }
@@ -168,9 +166,27 @@ impl MergeProver {
     pub fn enter_owned(&mut self, claims: Vec<ColumnClaim>)
         requires new { IsNew self.old.vars self.old }
         requires placed { AllLong self.old.vars (points claims.items) }
-        ensures { (F : Filling) (t k : ℕ) (cs : List Claim) → points cs ≡ points claims.items → F t k ≡ self.old.column.items → Follows self.new F (opening t k self.old.vars cs) }
+        ensures { (F : Filling) (t k : ℕ) (cs : List Claim) → 0 < length claims.items → AllOn t k self.old.vars claims.items → points cs ≡ points claims.items → F t k ≡ self.old.column.items → Follows self.new F (opening t k self.old.vars cs) }
     {
+        aim(&mut self.ending, claims.as_slice());
         self.claims = claims;
+    }
+
+    /// How many claims are left at the end.
+    pub fn claim_count(&self) -> u32
+        requires { (F : Filling) × (c : Claim) × Follows self.now F (summed (closed c)) }
+        ensures { result ≡ 1 }
+    {
+        1
+    }
+
+    /// The claim that is left at the end, `i` being 0. It is true, whatever the walk would have refused.
+    pub fn claim(&self, i: u32) -> &ColumnClaim
+        requires { (F : Filling) × (c : Claim) × (_ : Follows self.now F (summed (closed c))) × (i < 1) }
+        ensures claim { (F : Filling) (c : Claim) → Follows self.now F (summed (closed c)) → result.now ≡ c }
+        ensures holds { (F : Filling) (c : Claim) → Follows self.now F (summed (closed c)) → ColumnHolds F result.now }
+    {
+        self.ending.claim()
     }
 
     /// Makes the tables, where there are none yet.
@@ -198,18 +214,22 @@ impl Honest for MergeProver {
     ghost follows = { Follows };
 
     fn message(&mut self, out: &mut Vec<B128>) -> Result<(), sumcheck::NoMemory> {
-        if self.start().is_err() {
+        let Ok(()) = self.start() else {
             return Err(sumcheck::NoMemory);
-        }
-        match &mut self.sum {
-            Some(sum) => give(sum, out),
-            None => unreachable!(),
-        }
+        };
+        let Some(sum) = &self.sum else {
+            unreachable!();
+        };
+        give(sum, &mut self.ending, &[], out)?;
+        Ok(())
     }
 
     fn draw(&mut self, c: B128) {
         match &mut self.sum {
-            Some(sum) => sum.bind(c),
+            Some(sum) => {
+                sum.bind(c);
+                self.ending.set(c);
+            }
             None => self.mu = Some(c),
         }
     }

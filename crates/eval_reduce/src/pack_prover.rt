@@ -1,18 +1,21 @@
 //! The prover of a packed column.
 
-ghost use Rattle.std.specs.Prelude.{◌≡◌, ◌≤◌, ◌<◌, ◌+◌, ◌*◌, ◌^◌, ◌++◌, ℕ, [], length, get_or, vec_capacity, IfOk, IsSome, Some};
+ghost use Rattle.std.specs.Prelude.{◌≡◌, ◌≤◌, ◌<◌, ◌+◌, ◌*◌, ◌^◌, ◌++◌, ℕ, length, get_or, slice_index, IfOk, IsSome, Some};
 ghost use Rattle.cube_laws.specs.Sums.{tabulate};
 ghost use Rattle.sumcheck.specs.declared.column_claim.ColumnClaim.{ColumnClaim as Claim};
+ghost use Rattle.sumcheck.specs.Column.{ColumnHolds};
 ghost use Rattle.sumcheck.specs.Machine.{Filling};
 ghost use Rattle.eval_reduce.specs.declared.packing.Packing.{Packing as Form};
-ghost use Rattle.eval_reduce.specs.Pack.{corner_values, packing_of, stated};
-ghost use Rattle.eval_reduce.specs.Provers.{FollowsPack};
+ghost use Rattle.eval_reduce.specs.Ending.{told_claim, CanTell};
+ghost use Rattle.eval_reduce.specs.Pack.{closed, corner_values, packing_of, stated};
+ghost use Rattle.eval_reduce.specs.Provers.{FollowsPack, IsNewPacker};
 ghost use Rattle.eval_reduce.specs.Virtual.{table_of, IsThere};
 
+use crate::ending::Ending;
 use crate::no_memory::NoMemory;
 use crate::pack_walk::PackWalk;
 use crate::packing::Packing;
-use cube_mle::mle_at;
+use cube_mle::{fold_low, mle_at};
 use std::alloc::Global;
 use sumcheck::{ColumnClaim, ColumnTables, Honest};
 use table_shape::Shape;
@@ -59,14 +62,27 @@ pub(crate) fn append_corners(
     Ok(())
 }
 
+/// Where one value is left, the claim is told.
+fn tell_when_set(ending: &mut Ending, point: &[B128], values: &[B128])
+    requires { length values.now ≡ 1 → CanTell ending.old point.now }
+    ensures told { length values.now ≡ 1 → ending.new.claim ≡ Some (told_claim ending.old point.now (slice_index values.now 0)) }
+    ensures kept { 1 < length values.now → ending.new ≡ ending.old }
+{
+    if values.len() == 1 {
+        ending.tell(point, values[0]);
+    }
+}
+
 /// The prover of a packed column, who gives the values of its source at the corners and the claim's
-/// point.
+/// point, and has at the end the claim on the source with its true value.
 #[derive(Drop)]
 pub struct PackProver {
     alloc: Global,
-    log: u32,
+    packing: Packing,
     source: Vec<B128>,
     point: Vec<B128>,
+    values: Vec<B128>,
+    ending: Ending,
 }
 
 impl PackProver {
@@ -81,47 +97,44 @@ impl PackProver {
     ) -> Result<PackProver, NoMemory>
         requires form { IsSome (packing_of shape.now.tables rows table column) }
         requires there { (f : Form) → packing_of shape.now.tables rows table column ≡ Some f → IsThere tables.now table f.source (2 ^ (f.log + f.vars)) }
-        ensures log { IfOk result (λ prover. (f : Form) → packing_of shape.now.tables rows table column ≡ Some f → prover.log ≡ f.log) }
-        ensures small { IfOk result (λ prover. prover.log ≤ 7) }
-        ensures source { IfOk result (λ prover. (f : Form) → packing_of shape.now.tables rows table column ≡ Some f → prover.source.items ≡ table_of tables.now table f.source) }
-        ensures room { IfOk result (λ prover. (f : Form) → packing_of shape.now.tables rows table column ≡ Some f → f.vars ≤ vec_capacity prover.point) }
-        ensures new { IfOk result (λ prover. prover.point.items ≡ []) }
+        ensures form { IfOk result (λ prover. packing_of shape.now.tables rows table column ≡ Some prover.packing) }
+        ensures source { IfOk result (λ prover. prover.source.items ≡ table_of tables.now table prover.packing.source) }
+        ensures new { IfOk result IsNewPacker }
     {
-        let packing = Packing::of(shape, table, column, rows);
-        PackProver::of(alloc, &packing, tables)
+        PackProver::of(alloc, Packing::of(shape, table, column, rows), tables)
     }
 
     /// The prover for a packed column, from the list of its source.
     pub(crate) fn of(
         alloc: Global,
-        packing: &Packing,
+        packing: Packing,
         tables: &ColumnTables,
     ) -> Result<PackProver, NoMemory>
-        requires small { packing.now.level + packing.now.log ≤ 7 }
-        requires there { IsThere tables.now packing.now.table packing.now.source (2 ^ (packing.now.log + packing.now.vars)) }
-        ensures log { IfOk result (λ prover. prover.log ≡ packing.now.log) }
-        ensures small { IfOk result (λ prover. prover.log ≤ 7) }
-        ensures source { IfOk result (λ prover. prover.source.items ≡ table_of tables.now packing.now.table packing.now.source) }
-        ensures room { IfOk result (λ prover. packing.now.vars ≤ vec_capacity prover.point) }
-        ensures new { IfOk result (λ prover. prover.point.items ≡ []) }
+        requires small { packing.level + packing.log ≤ 7 }
+        requires there { IsThere tables.now packing.table packing.source (2 ^ (packing.log + packing.vars)) }
+        ensures form { IfOk result (λ prover. prover.packing ≡ packing) }
+        ensures source { IfOk result (λ prover. prover.source.items ≡ table_of tables.now packing.table packing.source) }
+        ensures new { IfOk result IsNewPacker }
     {
         let Some(source) = tables.get(packing.table, packing.source) else {
             unreachable!();
         };
+        let vars = packing.log as usize + packing.vars as usize;
         Ok(PackProver {
             alloc,
-            log: packing.log,
+            packing,
             source: Vec::from_slice(alloc, source)?,
             point: Vec::with_capacity(alloc, packing.vars as usize)?,
+            values: Vec::new(alloc),
+            ending: Ending::begin(alloc, packing.table, packing.source, vars)?,
         })
     }
 
     /// Takes the point of the claim. What value is claimed makes no difference.
     pub fn enter(&mut self, claim: &ColumnClaim)
-        requires small { self.old.log ≤ 7 }
-        requires new { self.old.point.items ≡ [] }
-        requires room { length claim.now.point ≤ vec_capacity self.old.point }
-        ensures { (F : Filling) (f : Form) (c : Claim) → self.old.log ≡ f.log → c.point ≡ claim.now.point → F f.table f.source ≡ self.old.source.items → length self.old.source.items ≡ 2 ^ (f.log + length claim.now.point) → FollowsPack self.new F (stated f c) }
+        requires new { IsNewPacker self.old }
+        requires long { length claim.now.point ≡ self.old.packing.vars }
+        ensures { (F : Filling) (c : Claim) → c.point ≡ claim.now.point → F self.old.packing.table self.old.packing.source ≡ self.old.source.items → length self.old.source.items ≡ 2 ^ (self.old.packing.log + self.old.packing.vars) → FollowsPack self.new F (stated self.old.packing c) }
     {
         if self
             .point
@@ -131,6 +144,23 @@ impl PackProver {
             unreachable!();
         }
     }
+
+    /// How many claims are left at the end.
+    pub fn claim_count(&self) -> u32
+        requires { (F : Filling) × (c : Claim) × FollowsPack self.now F (closed c) }
+        ensures { result ≡ 1 }
+    {
+        1
+    }
+
+    /// The claim that is left at the end, `i` being 0. It is true, whatever the walk would have refused.
+    pub fn claim(&self, i: u32) -> &ColumnClaim
+        requires { (F : Filling) × (c : Claim) × (_ : FollowsPack self.now F (closed c)) × (i < 1) }
+        ensures claim { (F : Filling) (c : Claim) → FollowsPack self.now F (closed c) → result.now ≡ c }
+        ensures holds { (F : Filling) (c : Claim) → FollowsPack self.now F (closed c) → ColumnHolds F result.now }
+    {
+        self.ending.claim()
+    }
 }
 
 impl Honest for PackProver {
@@ -139,18 +169,29 @@ impl Honest for PackProver {
     ghost follows = { FollowsPack };
 
     fn message(&mut self, out: &mut Vec<B128>) -> Result<(), sumcheck::NoMemory> {
-        let given = append_corners(
+        let mut values = Vec::new(self.alloc);
+        let Ok(()) = append_corners(
             self.alloc,
             self.source.as_slice(),
-            self.log,
+            self.packing.log,
             self.point.as_slice(),
-            out,
-        );
-        if given.is_err() {
+            &mut values,
+        ) else {
             return Err(sumcheck::NoMemory);
-        }
+        };
+        out.extend_from_slice(values.as_slice())?;
+        tell_when_set(&mut self.ending, self.point.as_slice(), values.as_slice());
+        self.values = values;
         Ok(())
     }
 
-    fn draw(&mut self, c: B128) {}
+    fn draw(&mut self, c: B128) {
+        self.ending.set(c);
+        fold_low(&mut self.values, c);
+        tell_when_set(
+            &mut self.ending,
+            self.point.as_slice(),
+            self.values.as_slice(),
+        );
+    }
 }

@@ -4,6 +4,7 @@ ghost use Rattle.std.specs.Prelude.{◌≡◌, ◌≤◌, ◌<◌, ◌+◌, ◌^
 ghost use Rattle.cube_laws.specs.Extension.{bits_of, extension};
 ghost use Rattle.sumcheck.specs.declared.column_claim.ColumnClaim.{ColumnClaim as Claim};
 ghost use Rattle.eval_reduce.specs.declared.projection.Projection.{Projection as Form};
+ghost use Rattle.sumcheck.specs.Column.{ColumnHolds};
 ghost use Rattle.sumcheck.specs.Machine.{Filling};
 ghost use Rattle.eval_reduce.specs.Project.{closed, projected_claim, projection_of};
 ghost use Rattle.eval_reduce.specs.Provers.{true_claim, FollowsProject, IsNewProjector};
@@ -116,7 +117,8 @@ impl ProjectProver {
     pub fn claim(&self, i: u32) -> &ColumnClaim
         requires done { IsSome self.now.closed }
         requires first { i < 1 }
-        ensures { self.now.closed ≡ Some result.now }
+        ensures claim { self.now.closed ≡ Some result.now }
+        ensures holds { (F : Filling) (c : Claim) → FollowsProject self.now F (closed c) → ColumnHolds F result.now }
     {
         match &self.closed {
             Some(claim) => claim,

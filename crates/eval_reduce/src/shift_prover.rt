@@ -1,21 +1,21 @@
 //! The prover of a shifted column.
 
-ghost use Rattle.std.specs.Prelude.{◌≡◌, ℕ, ◌≤◌, ◌<◌, ◌+◌, ◌*◌, ◌^◌, ◌++◌, ◌∷◌, ◌==◌, [], take, drop, length, vec_capacity, is_some, true, false, None, IfOk, IsSome, Some};
+ghost use Rattle.std.specs.Prelude.{◌≡◌, ℕ, ◌≤◌, ◌<◌, ◌+◌, ◌*◌, ◌^◌, ◌==◌, take, drop, length, vec_capacity, is_some, true, false, None, IfOk, IsSome, Some};
 ghost use Rattle.cube_laws.specs.Extension.{extension};
 ghost use Rattle.cube_laws.specs.Sums.{tabulate};
 ghost use Rattle.shift_laws.specs.Shifts.{goes, flag, shift_sum};
 ghost use Rattle.cube_mle.specs.Moving.{shift_of};
 ghost use Rattle.sumcheck.specs.declared.column_claim.ColumnClaim.{ColumnClaim as Claim};
+ghost use Rattle.sumcheck.specs.Column.{ColumnHolds};
 ghost use Rattle.sumcheck.specs.Machine.{AwaitsSome, Filling};
-ghost use Rattle.sumcheck.specs.Pair.{pair_form};
-ghost use Rattle.sumcheck.specs.Proving.{Accompanies, Goes};
-ghost use Rattle.sumcheck.specs.Rounds.{Rounds};
-ghost use Rattle.sumcheck.specs.Summing.{adding, summed_entries, summed_honest, summed_message};
+ghost use Rattle.sumcheck.specs.Summing.{closed};
 ghost use Rattle.eval_reduce.specs.declared.shifting.Shifting.{Shifting as Form};
-ghost use Rattle.eval_reduce.specs.Shift.{shift_entries, shifted_sum, shifting_of, source_of, stated_sum, the_sum, Shift, Shifted};
-ghost use Rattle.eval_reduce.specs.ShiftProver.{FollowsShift};
+ghost use Rattle.eval_reduce.specs.Shift.{shift_entries, shifting_of, source_of, stated_sum, summed, Shift};
+ghost use Rattle.eval_reduce.specs.ShiftProver.{FollowsShift, IsNewShifter};
 ghost use Rattle.eval_reduce.specs.Virtual.{table_of, IsThere};
 
+use crate::ending::Ending;
+use crate::giving::give;
 use crate::no_memory::NoMemory;
 use crate::pack_prover::append_corners;
 use crate::shift_walk::ShiftWalk;
@@ -95,23 +95,8 @@ fn begin_sum(
     Ok(sum)
 }
 
-/// A round, or the last message.
-fn give(sum: &mut SumProver<Pair>, out: &mut Vec<B128>) -> Result<(), sumcheck::NoMemory>
-    requires { length sum.old.lists ≡ 2 }
-    ensures { IfOk result (λ _. (F : Filling) (t : Shifted) (r : Rounds) → Goes pair_form sum.old (shifted_sum F t) r → AwaitsSome (summed_entries the_sum (adding t r)) → (out.new.items ≡ out.old.items ++ summed_honest the_sum F (adding t r)) × Accompanies the_sum pair_form sum.new F (summed_message the_sum (adding t r) (summed_honest the_sum F (adding t r)))) }
-{
-    if sum.left() > 0 {
-        sum.round(out)?;
-        return Ok(());
-    }
-    let finals = sum.finals();
-    if out.push(finals[1]).is_err() {
-        return Err(sumcheck::NoMemory);
-    }
-    Ok(())
-}
-
-/// The prover of a shifted column, who makes the tables of a block with the first message.
+/// The prover of a shifted column, who makes the tables of a block with the first message, and has at
+/// the end the claim on the source with its true value.
 #[derive(Drop)]
 pub struct ShiftProver {
     alloc: Global,
@@ -119,6 +104,7 @@ pub struct ShiftProver {
     source: Vec<B128>,
     point: Vec<B128>,
     sum: Option<SumProver<Pair>>,
+    ending: Ending,
 }
 
 impl ShiftProver {
@@ -136,7 +122,7 @@ impl ShiftProver {
         ensures form { IfOk result (λ prover. shifting_of shape.now.tables rows table column ≡ Some prover.shifting) }
         ensures source { IfOk result (λ prover. prover.source.items ≡ table_of tables.now table prover.shifting.source) }
         ensures room { IfOk result (λ prover. prover.shifting.vars ≤ vec_capacity prover.point) }
-        ensures new { IfOk result (λ prover. (prover.point.items ≡ []) × (prover.sum ≡ None)) }
+        ensures new { IfOk result IsNewShifter }
         ensures small { IfOk result (λ prover. (prover.shifting.block ≤ 7) × ((prover.shifting.offset < 2 ^ prover.shifting.block) × (prover.shifting.block ≤ prover.shifting.vars))) }
     {
         ShiftProver::of(alloc, Shifting::of(shape, table, column, rows), tables)
@@ -152,7 +138,7 @@ impl ShiftProver {
         ensures form { IfOk result (λ prover. prover.shifting ≡ shifting) }
         ensures source { IfOk result (λ prover. prover.source.items ≡ table_of tables.now shifting.table shifting.source) }
         ensures room { IfOk result (λ prover. prover.shifting.vars ≤ vec_capacity prover.point) }
-        ensures new { IfOk result (λ prover. (prover.point.items ≡ []) × (prover.sum ≡ None)) }
+        ensures new { IfOk result IsNewShifter }
     {
         let Some(source) = tables.get(shifting.table, shifting.source) else {
             unreachable!();
@@ -163,12 +149,18 @@ impl ShiftProver {
             source: Vec::from_slice(alloc, source)?,
             point: Vec::with_capacity(alloc, shifting.vars as usize)?,
             sum: None,
+            ending: Ending::begin(
+                alloc,
+                shifting.table,
+                shifting.source,
+                shifting.vars as usize,
+            )?,
         })
     }
 
     /// Takes the point of the claim. What value is claimed makes no difference.
     pub fn enter(&mut self, claim: &ColumnClaim)
-        requires new { (self.old.point.items ≡ []) × (self.old.sum ≡ None) }
+        requires new { IsNewShifter self.old }
         requires small { (self.old.shifting.block ≤ 7) × ((self.old.shifting.offset < 2 ^ self.old.shifting.block) × (self.old.shifting.block ≤ self.old.shifting.vars)) }
         requires long { length claim.now.point ≡ self.old.shifting.vars }
         requires room { self.old.shifting.vars ≤ vec_capacity self.old.point }
@@ -181,6 +173,23 @@ impl ShiftProver {
         {
             unreachable!();
         }
+    }
+
+    /// How many claims are left at the end.
+    pub fn claim_count(&self) -> u32
+        requires { (F : Filling) × (c : Claim) × FollowsShift self.now F (summed (closed c)) }
+        ensures { result ≡ 1 }
+    {
+        1
+    }
+
+    /// The claim that is left at the end, `i` being 0. It is true, whatever the walk would have refused.
+    pub fn claim(&self, i: u32) -> &ColumnClaim
+        requires { (F : Filling) × (c : Claim) × (_ : FollowsShift self.now F (summed (closed c))) × (i < 1) }
+        ensures claim { (F : Filling) (c : Claim) → FollowsShift self.now F (summed (closed c)) → result.now ≡ c }
+        ensures holds { (F : Filling) (c : Claim) → FollowsShift self.now F (summed (closed c)) → ColumnHolds F result.now }
+    {
+        self.ending.claim()
     }
 
     /// Makes the tables, where there are none yet.
@@ -209,18 +218,23 @@ impl Honest for ShiftProver {
     ghost follows = { FollowsShift };
 
     fn message(&mut self, out: &mut Vec<B128>) -> Result<(), sumcheck::NoMemory> {
-        if self.start().is_err() {
+        let Ok(()) = self.start() else {
             return Err(sumcheck::NoMemory);
-        }
-        match &mut self.sum {
-            Some(sum) => give(sum, out),
-            None => unreachable!(),
-        }
+        };
+        let Some(sum) = &self.sum else {
+            unreachable!();
+        };
+        let (_, high) = self.point.split_at(self.shifting.block as usize);
+        give(sum, &mut self.ending, high, out)?;
+        Ok(())
     }
 
     fn draw(&mut self, c: B128) {
         match &mut self.sum {
-            Some(sum) => sum.bind(c),
+            Some(sum) => {
+                sum.bind(c);
+                self.ending.set(c);
+            }
             None => unreachable!(),
         }
     }

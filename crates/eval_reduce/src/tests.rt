@@ -1,6 +1,7 @@
 //! The walk beside its prover.
 
-ghost use Rattle.std.specs.Prelude.{◌≡◌, length, IfOk};
+ghost use Rattle.std.specs.Prelude.{◌≡◌, ◌≤◌, ◌∷◌, [], length, IfOk};
+ghost use Rattle.eval_reduce.specs.Merge.{points, AllOn};
 ghost use Rattle.eval_reduce.specs.Virtual.{IsThere};
 
 use crate::{
@@ -32,7 +33,7 @@ fn claim(
     error: u64,
 ) -> Result<ColumnClaim, NoMemory>
     requires { length column.now ≡ 4 }
-    ensures { IfOk result (λ c. (c.table ≡ 0) × ((c.column ≡ 5) × (length c.point ≡ 2))) }
+    ensures { IfOk result (λ c. (c.table ≡ 0) × ((c.column ≡ 5) × (c.point ≡ x ∷ y ∷ []))) }
 {
     let mut point = Values::new(alloc);
     if point.push(element(x)).is_err() {
@@ -52,29 +53,83 @@ fn claim(
     })
 }
 
-/// Three claims on a column, the last of them off by `error`.
-fn merge_three(alloc: Global, column: [u64; 4], error: u64) -> Result<(u32, bool), NoMemory> {
-    let column = column.map(element);
-    let claims = [
-        claim(alloc, &column, 40, 90, 0)?,
-        claim(alloc, &column, 41, 97, 0)?,
-        claim(alloc, &column, 0, 1, error)?,
-    ];
+/// The value of a prover's claim, where it is the walk's.
+fn agreed(own: &ColumnClaim, left: &ColumnClaim) -> Option<u128> {
+    if own.table != left.table
+        || own.column != left.column
+        || own.point.as_slice() != left.point.as_slice()
+        || own.value != left.value
+    {
+        return None;
+    }
+    Some(own.value.number())
+}
+
+/// Claims on a column, of which the prover is told other values than the walk: how many entries pass,
+/// and where all do, on which value both agree.
+fn merge(
+    alloc: Global,
+    column: &[B128],
+    claims: &[ColumnClaim],
+    told: &[ColumnClaim],
+) -> Result<(u32, Option<u128>), NoMemory>
+    requires whole { length column.now ≡ 4 }
+    requires many { (2 ≤ length claims.now) × (length claims.now ≤ 3) }
+    requires on { AllOn 0 5 2 claims.now }
+    requires told { AllOn 0 5 2 told.now × (points claims.now ≡ points told.now) }
+{
     let mut walk = MergeWalk::begin(alloc, 2, 3)?;
-    walk.enter(&claims);
-    let mut prover = MergeProver::begin(alloc, 2, 3, &column)?;
-    prover.enter(&claims);
+    walk.enter(claims);
+    let mut prover = MergeProver::begin(alloc, 2, 3, column)?;
+    prover.enter(told);
     let mut values = Vec::new(alloc);
-    let met = meet(&mut walk, &mut prover, 20, &mut values)?;
-    Ok(met)
+    let (passed, ended) = meet(&mut walk, &mut prover, 20, &mut values)?;
+    if !ended {
+        return Ok((passed, None));
+    }
+    Ok((passed, agreed(prover.claim(0), walk.claim(0))))
+}
+/// Two claims on a column, or three, the last of them off by `error` for the walk and by `told` for the
+/// prover.
+fn merge_some(
+    alloc: Global,
+    column: [u64; 4],
+    three: bool,
+    error: u64,
+    told: u64,
+) -> Result<(u32, Option<u128>), NoMemory> {
+    let column = column.map(element);
+    let first = claim(alloc, &column, 40, 90, 0)?;
+    let last = claim(alloc, &column, 41, 97, error)?;
+    let own_first = claim(alloc, &column, 40, 90, 0)?;
+    let own_last = claim(alloc, &column, 41, 97, told)?;
+    if three {
+        let between = claim(alloc, &column, 0, 1, 0)?;
+        let own_between = claim(alloc, &column, 0, 1, 0)?;
+        return merge(
+            alloc,
+            &column,
+            &[first, between, last],
+            &[own_first, own_between, own_last],
+        );
+    }
+    merge(alloc, &column, &[first, last], &[own_first, own_last])
 }
 
 #[test]
 fn walk_against_prover(rt: HostRuntime) -> Result<(), NoMemory> {
     let alloc = rt.alloc();
-    for column in [[1000, 1077, 1154, 1231], [0, 0, 0, 0], [1, 2, 4, 8]] {
-        assert_eq!(rt; merge_three(alloc, column, 0)?, (6, true));
-        assert_eq!(rt; merge_three(alloc, column, 1)?, (1, false));
+    // the columns at (9, 11)
+    for (column, value) in [
+        ([1000, 1077, 1154, 1231], 0x2a),
+        ([0, 0, 0, 0], 0),
+        ([1, 2, 4, 8], 2),
+    ] {
+        for three in [false, true] {
+            assert_eq!(rt; merge_some(alloc, column, three, 0, 0)?, (6, Some(value)));
+            assert_eq!(rt; merge_some(alloc, column, three, 0, 1)?, (6, Some(value)));
+            assert_eq!(rt; merge_some(alloc, column, three, 1, 1)?, (1, None));
+        }
     }
     Ok(())
 }
@@ -102,8 +157,8 @@ fn one_source(alloc: Global) -> Result<ColumnTables, NoMemory>
     Ok(tables)
 }
 
-/// Each two values of the source as one, on which a value is claimed.
-fn pack_meets(alloc: Global, value: u64) -> Result<(u32, bool), NoMemory> {
+/// Each two values of the source as one, of which the prover is told another value than the walk.
+fn pack_meets(alloc: Global, value: u64, told: u64) -> Result<(u32, Option<u128>), NoMemory> {
     let tables = one_source(alloc)?;
     let packing = Packing {
         table: 0,
@@ -113,20 +168,28 @@ fn pack_meets(alloc: Global, value: u64) -> Result<(u32, bool), NoMemory> {
         level: 1,
         log: 1,
     };
-    let claim = claim_of(alloc, element(value))?;
-    let mut prover = PackProver::of(alloc, &packing, &tables)?;
+    let mut claim = claim_of(alloc, element(told))?;
+    let mut prover = PackProver::of(alloc, packing, &tables)?;
     prover.enter(&claim);
+    claim.value = element(value);
     let mut walk = PackWalk::of(alloc, packing)?;
     walk.enter(&claim);
     let mut values = Vec::new(alloc);
-    Ok(meet(&mut walk, &mut prover, 20, &mut values)?)
+    let (passed, ended) = meet(&mut walk, &mut prover, 20, &mut values)?;
+    if !ended {
+        return Ok((passed, None));
+    }
+    Ok((passed, agreed(prover.claim(0), walk.claim(0))))
 }
 
 #[test]
 fn pack_against_prover(rt: HostRuntime) -> Result<(), NoMemory> {
     let alloc = rt.alloc();
-    assert_eq!(rt; pack_meets(alloc, 0x9a)?, (2, true));
-    assert_eq!(rt; pack_meets(alloc, 1)?, (0, false));
+    // the source at (8, 40, 90)
+    for told in [0x9a, 1] {
+        assert_eq!(rt; pack_meets(alloc, 0x9a, told)?, (2, Some(0x87)));
+    }
+    assert_eq!(rt; pack_meets(alloc, 1, 1)?, (0, None));
     Ok(())
 }
 
@@ -210,13 +273,15 @@ fn a_projected_column(rt: HostRuntime) -> Result<(), NoMemory> {
     Ok(())
 }
 
-/// The source moved within blocks of four values, on which a value is claimed at (40, 90, 7).
+/// The source moved within blocks of four values, on which a value is claimed at (40, 90, 7); the prover
+/// is told another.
 fn shift_meets(
     alloc: Global,
     kind: ShiftKind,
     offset: u32,
     value: u64,
-) -> Result<(u32, bool), NoMemory> {
+    told: u64,
+) -> Result<(u32, Option<u128>), NoMemory> {
     let tables = one_source(alloc)?;
     let shifting = Shifting {
         table: 0,
@@ -228,18 +293,23 @@ fn shift_meets(
         offset: offset % 4,
     };
     let point = [element(40), element(90), element(7)];
-    let claim = ColumnClaim {
+    let mut claim = ColumnClaim {
         table: 0,
         column: 3,
         point: Values::from_vec(Vec::from_slice(alloc, &point)?),
-        value: element(value),
+        value: element(told),
     };
     let mut prover = ShiftProver::of(alloc, shifting, &tables)?;
     prover.enter(&claim);
+    claim.value = element(value);
     let mut walk = ShiftWalk::of(alloc, shifting)?;
     walk.enter(&claim);
     let mut values = Vec::new(alloc);
-    Ok(meet(&mut walk, &mut prover, 20, &mut values)?)
+    let (passed, ended) = meet(&mut walk, &mut prover, 20, &mut values)?;
+    if !ended {
+        return Ok((passed, None));
+    }
+    Ok((passed, agreed(prover.claim(0), walk.claim(0))))
 }
 
 #[test]
@@ -254,8 +324,17 @@ fn shift_against_prover(rt: HostRuntime) -> Result<(), NoMemory> {
         (ShiftKind::Rol, 1, 0xb2),
         (ShiftKind::Rol, 3, 0x51),
     ] {
-        assert_eq!(rt; shift_meets(alloc, kind, offset, value)?, (5, true));
-        assert_eq!(rt; shift_meets(alloc, kind, offset, value + 1)?, (0, false));
+        // the source at (8, 10, 7)
+        for told in [value, 1] {
+            assert_eq!(rt;
+                shift_meets(alloc, kind, offset, value, told)?,
+                (5, Some(0xa))
+            );
+        }
+        assert_eq!(rt;
+            shift_meets(alloc, kind, offset, value + 1, value)?,
+            (0, None)
+        );
     }
     Ok(())
 }

@@ -10,4 +10,4 @@ fill-copies-requires-clause-short c = no_longer c.args.self.now.vars c.args.self
 pub returns : goal.returns
 returns c =
     let p : MergeProver = c.args.self.now in
-    entered p (record p { room = c.fill-copies.new.self; claims = c.fill-copies.result }) (points c.args.claims.now) c.requires.new refl refl c.requires.new.none (ap points c.fill-copies.ensures.copies) c.requires.placed
+    entered p (record p { room = c.fill-copies.new.self; claims = c.fill-copies.result; ending = c.aim.new.ending }) c.args.claims.now c.requires.new refl refl c.requires.new.none (ap points c.fill-copies.ensures.copies) c.requires.placed c.aim.ensures

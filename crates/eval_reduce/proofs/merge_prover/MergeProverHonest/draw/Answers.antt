@@ -10,7 +10,7 @@ use Rattle.eval_reduce.proofs.merge_prover.MergeProverHonest.draw.Goals as goal
 pub returns-in-Some : goal.returns-in-Some
 returns-in-Some c = λ F s h w.
     let p : MergeProver = c.args.self.now in
-    draw_goes_on p (record p { sum = Some c.bind.new.self }) c.in-Some.sum c.bind.new.self c.args.c c.bind.ensures F s
+    draw_goes_on p (record p { sum = Some c.bind.new.self; ending = c.set.new.self }) c.in-Some.sum c.bind.new.self c.args.c c.bind.ensures c.set.ensures F s
     (subst (λ (o : Option (Proving Pair)). FollowsSum p o F s) c.in-Some.is h) w
 
 pub returns-in-None : goal.returns-in-None

@@ -1,4 +1,4 @@
-use Rattle.std.proofs.Common.{Option, Some, subst}
+use Rattle.std.proofs.Common.{Option, Some, refl, subst}
 use Rattle.sumcheck.specs.Proving.{Proving}
 use Rattle.sumcheck.specs.declared.summand.Pair.{Pair}
 use Rattle.eval_reduce.specs.declared.shift_prover.ShiftProver.{ShiftProver}
@@ -14,5 +14,5 @@ unreachable-requires c =
 pub returns : goal.returns
 returns c = λ F s h w.
     let p : ShiftProver = c.args.self.now in
-    draw_goes_on p (record p { sum = Some c.bind.new.self }) c.in-Some.sum c.bind.new.self c.args.c c.bind.ensures F s
+    draw_goes_on p (record p { sum = Some c.bind.new.self; ending = c.set.new.self }) c.in-Some.sum c.bind.new.self c.args.c c.bind.ensures refl c.set.ensures F s
     (subst (λ (o : Option (Proving Pair)). FollowsBlock p o F s) c.in-Some.is h) w
