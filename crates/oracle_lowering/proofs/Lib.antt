@@ -2,3 +2,8 @@ pub mod Flushed
 pub mod Satisfied
 pub mod ProductSteps
 pub mod Decided
+pub mod BitPlaces
+pub mod Spots
+pub mod Owned
+pub mod AlignedWords
+pub mod TakenBlocks

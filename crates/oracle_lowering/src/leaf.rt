@@ -12,7 +12,7 @@ use column_store::Column;
 use table_shape::FlushShape;
 use tower_field::{B128, Tower};
 
-fn element(n: u128) -> B128
+pub(crate) fn element(n: u128) -> B128
     ensures { result ≡ n }
 {
     match B128::from_number(n) {

@@ -1,6 +1,7 @@
 //! Tables and channels lowered to products, and the bits of their columns in one table.
 #![tactic(auto)]
 
+mod bits;
 mod laws;
 mod leaf;
 mod lowered;

@@ -1,14 +1,17 @@
 //! A store, lowered.
 
-ghost use Rattle.std.specs.Prelude.{◌≡◌, ℕ, ◌+◌, ◌*◌, ◌^◌, ◌<◌, IfOk, IsSome, Some, length, slice_index};
+ghost use Rattle.std.specs.Prelude.{◌≡◌, ℕ, ◌+◌, ◌*◌, ◌^◌, ◌<◌, ◌-◌, IfOk, IsSome, Some, length, slice_index};
 ghost use Rattle.table_shape.specs.declared.shape.FlushShape.{FlushShape as Flush};
 ghost use Rattle.table_shape.specs.Filling.{values_of};
 ghost use Rattle.table_shape.specs.Lowering.{leaf_at, step};
-ghost use Rattle.table_shape.specs.Placement.{blocks};
+ghost use Rattle.shift_laws.specs.Shifts.{flag};
+ghost use Rattle.table_shape.specs.Oracle.{bit_table, packed_table};
+ghost use Rattle.table_shape.specs.Placement.{blocks, places_log};
 ghost use Rattle.column_store.specs.Draft.{IsPlace, position_of};
 ghost use Rattle.m3_judge.specs.Sources.{flush_at};
 
-use crate::leaf::{leaf_at, step_at};
+use crate::bits::{bit_at, word_at};
+use crate::leaf::{element, leaf_at, step_at};
 use bit_claim::{Placement, place};
 use column_store::Store;
 use std::alloc::Global;
@@ -93,5 +96,21 @@ impl<'a> Lowered<'a> {
         let own = &self.store.shape().tables()[table as usize];
         let flush = &own.flushes.as_slice()[flush as usize];
         leaf_at(self.store.columns(table), rows, flush, row, alpha, gamma)
+    }
+
+    /// The bit at a place of the table of bits.
+    pub fn bit(&self, place: u64) -> bool
+        requires { place < 2 ^ places_log (blocks self.now.shape.tables self.now.rows) }
+        ensures { flag result ≡ slice_index (bit_table self.now.shape.tables self.now.rows self.now.filling) place }
+    {
+        bit_at(self.store, &self.placement, place)
+    }
+
+    /// The number of the 128 bits of a word of the packed table.
+    pub fn packed(&self, place: u64) -> B128
+        requires { place < 2 ^ (places_log (blocks self.now.shape.tables self.now.rows) - 7) }
+        ensures { result ≡ slice_index (packed_table self.now.shape.tables self.now.rows self.now.filling) place }
+    {
+        element(word_at(self.store, &self.placement, place))
     }
 }
