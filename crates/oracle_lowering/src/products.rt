@@ -44,7 +44,7 @@ pub fn products_at(
     ensures satisfied { IfOk result (λ products. Satisfies lowered.now.shape lowered.now.rows lowered.now.filling → IsTrue products.holds) }
 {
     let store = lowered.store();
-    satisfied_is_lowered(store, alpha, gamma);
+    follows_from_the_tables(store, alpha, gamma);
     let pairs = pairs_at(alloc, store, alpha, gamma)?;
     let zero = are_zero(store);
     let equal = are_equal(pairs.as_slice());
@@ -53,7 +53,7 @@ pub fn products_at(
 }
 
 /// The values of a store satisfy the lowered statement where they satisfy its tables.
-fn satisfied_is_lowered(store: &Store, alpha: B128, gamma: B128)
+fn follows_from_the_tables(store: &Store, alpha: B128, gamma: B128)
     ensures { Satisfies store.now.shape store.now.rows store.now.filling → LoweredHolds store.now.shape store.now.rows store.now.filling alpha gamma }
 {
     let _rows = store.rows();

@@ -24,5 +24,5 @@ returns-clause-satisfied c satisfied =
     ] in
     let holds = decided c.store-store.result.now c.args.lowered.now c.args.alpha c.args.gamma c.as_slice.result.now c.in_ok-pairs.pairs c.are_zero-zero.result c.are_equal-equal.result c.if-zero.holds
     c.store-store.ensures c.as_slice.ensures c.in_ok-pairs.ensures c.are_zero-zero.ensures c.are_equal-equal.ensures both in
-    let promise = subst (λ (s : Stored). Satisfies s.shape s.rows s.filling → LoweredHolds s.shape s.rows s.filling c.args.alpha c.args.gamma) c.store-store.ensures c.satisfied_is_lowered.ensures in
+    let promise = subst (λ (s : Stored). Satisfies s.shape s.rows s.filling → LoweredHolds s.shape s.rows s.filling c.args.alpha c.args.gamma) c.store-store.ensures c.follows_from_the_tables.ensures in
     holds.1 (promise satisfied)
