@@ -7,6 +7,8 @@ mod leaf;
 mod lowered;
 mod products;
 mod side;
+#[cfg(test)]
+mod tests;
 
 pub use laws::satisfied_is_lowered;
 pub use lowered::{Lowered, lower};
