@@ -1,5 +1,5 @@
--- Steps towards the answer of a check.
-use Rattle.std.proofs.Common.{◌≡◌, ◌≢◌, ◌<◌, ◌≤◌, ℕ, List, length, Bool, true, false, Result, Ok, Err, refl, sym, subst, inl, inr, arith}
+-- Steps towards the answer to files.
+use Rattle.std.proofs.Common.{◌≡◌, ◌≢◌, ◌≤◌, ℕ, List, length, Bool, true, false, Result, Ok, Err, refl, sym, subst, inl, inr, arith}
 use Rattle.std.specs.Prelude.{nat_lt, MatchResult}
 use Rattle.std.specs.Bool.{MatchBool}
 use Rattle.std.proofs.lemmas.Bool.Decides.{nat_tests}
@@ -14,14 +14,15 @@ use Rattle.witness_reader.specs.declared.fault.WitnessStop.{WitnessStop}
 use Rattle.table_shape.specs.declared.fault.ShapeFault.{ShapeFault}
 use Rattle.m3_tool.specs.declared.tables.Parsed.{Parsed}
 use Rattle.m3_tool.specs.declared.tables.Parsed.TheVariants as parsed
-use Rattle.m3_tool.specs.declared.check.Shaped.{Shaped}
-use Rattle.m3_tool.specs.declared.check.Shaped.TheVariants as shaped
+use Rattle.m3_tool.specs.declared.witness.Shaped.{Shaped}
+use Rattle.m3_tool.specs.declared.witness.Shaped.TheVariants as shaped
+use Rattle.m3_tool.specs.declared.witness.Question.{Question}
 use Rattle.witness_reader.specs.Witness.{WitnessData, IsOf, filling_of}
-use Rattle.m3_tool.specs.Checking.{IsParsed, IsParsedFile, IsShapedTables, IsShapedFile}
+use Rattle.m3_tool.specs.Checking.{Answering, IsParsed, IsParsedFile, IsShapedTables, IsShapedFile}
 use Rattle.table_shape.specs.Parts.{ShapeParts}
 use Rattle.table_shape.specs.Filling.{Filling}
 use Rattle.m3_tool.specs.Lines.{too_long_line, shape_fault_line}
-use Rattle.m3_tool.specs.Run.{Answer, answer, IsJudgement, IsWitnessAnswer, IsWitnessFileAnswer, IsShapeAnswer, IsTextRefusal, IsTextAnswer, OfTablesFile, IsTablesAnswer, IsCheckAnswer, IsPrinted, IsPrintAnswer, witness_refusal}
+use Rattle.m3_tool.specs.Run.{Answer, answer, ToValues, IsWitnessAnswer, IsWitnessFileAnswer, IsShapeAnswer, IsTextRefusal, IsTextAnswer, OfTablesFile, IsTablesAnswer, IsReadAnswer, IsPrinted, IsPrintAnswer, witness_refusal}
 use Rattle.m3_tool.specs.Answer.{IsReadOnce, answer_of}
 
 -- a reader that answers every text's declarations and every fault reads each text once
@@ -52,13 +53,13 @@ read_once text (Err (Fault fault)) memory reads refuses = record {
     apart a f e = cc
 read_once text (Err NoMemory) memory reads refuses = absurd (memory refl)
 
--- the values of a witness, judged
-pub judged_witness : (shape stored : ShapeParts) (file rows : List ℕ) (filling : Filling) (a : Answer) → stored ≡ shape → IsOf shape.tables file rows filling → IsJudgement stored rows filling a → IsWitnessAnswer shape file a
-judged_witness shape stored file rows filling a same (w, read, rows_are, filling_is) judged =
-    let at : IsJudgement shape w.rows (filling_of shape.tables w) a =
-    subst (λ (s : ShapeParts). IsJudgement s w.rows (filling_of shape.tables w) a) same
-    (subst (λ (f : Filling). IsJudgement stored w.rows f a) filling_is (subst (λ (r : List ℕ). IsJudgement stored r filling a) rows_are judged)) in
-    subst (λ (r : Result WitnessData WitnessStop). MatchResult r (λ (w : WitnessData). IsJudgement shape w.rows (filling_of shape.tables w) a) (λ stop. a ≡ witness_refusal stop)) (sym read) at
+-- the values of a witness, answered
+pub answered_witness : (Answers : ToValues) (shape stored : ShapeParts) (file rows : List ℕ) (filling : Filling) (a : Answer) → stored ≡ shape → IsOf shape.tables file rows filling → Answers stored rows filling a → IsWitnessAnswer Answers shape file a
+answered_witness Answers shape stored file rows filling a same (w, read, rows_are, filling_is) answered =
+    let at : Answers shape w.rows (filling_of shape.tables w) a =
+    subst (λ (s : ShapeParts). Answers s w.rows (filling_of shape.tables w) a) same
+    (subst (λ (f : Filling). Answers stored w.rows f a) filling_is (subst (λ (r : List ℕ). Answers stored r filling a) rows_are answered)) in
+    subst (λ (r : Result WitnessData WitnessStop). MatchResult r (λ (w : WitnessData). Answers shape w.rows (filling_of shape.tables w) a) (λ stop. a ≡ witness_refusal stop)) (sym read) at
 
 -- a file within its limit is judged by what stands in it
 pub within_limit : (text : List ℕ) (a : Answer) (P : Type 0) → length text ≤ max_tables_file → P → OfTablesFile text a P
@@ -86,25 +87,14 @@ pub shaped_file : (text : List ℕ) (decls : List Decl) (s : Shaped) → IsParse
 shaped_file text decls (shaped.Shape shape) (within, once, is) found = (within, once, (decls, is, found))
 shaped_file text decls (shaped.Refused refusal) (within, once, is) (fault, found, refused) = (
   once,
-  λ witness. within_limit text (answer_of refusal) (IsTextAnswer text (λ decls a. IsShapeAnswer decls witness a) (answer_of refusal)) within
-      (inr (decls, is, subst (λ (r : Result ShapeParts ShapeFault). MatchResult r (λ shape. IsWitnessFileAnswer shape witness (answer_of refusal)) (λ fault. answer_of refusal ≡ answer Tables (shape_fault_line fault))) (sym found) refused)),
+  λ question witness. within_limit text (answer_of refusal) (IsTextAnswer text (IsShapeAnswer (Answering question) witness) (answer_of refusal)) within
+      (inr (decls, is, subst (λ (r : Result ShapeParts ShapeFault). MatchResult r (λ shape. IsWitnessFileAnswer (Answering question) shape witness (answer_of refusal)) (λ fault. answer_of refusal ≡ answer Tables (shape_fault_line fault))) (sym found) refused)),
 )
 
-pub within_witness : (shape : ShapeParts) (witness : List ℕ) (a : Answer) → length witness ≤ max_witness_file → IsWitnessAnswer shape witness a → IsWitnessFileAnswer shape witness a
-within_witness shape witness a within is =
+pub within_witness : (Answers : ToValues) (shape : ShapeParts) (witness : List ℕ) (a : Answer) → length witness ≤ max_witness_file → IsWitnessAnswer Answers shape witness a → IsWitnessFileAnswer Answers shape witness a
+within_witness Answers shape witness a within is =
     let short : nat_lt max_witness_file (length witness) ≡ false = grind (arith, nat_tests) in
-    subst (λ b. MatchBool b (a ≡ answer TooLong (too_long_line max_witness_file)) (IsWitnessAnswer shape witness a)) (sym short) is
-
-pub long_witness : (shape : ShapeParts) (witness : List ℕ) (a : Answer) → max_witness_file < length witness → a ≡ answer TooLong (too_long_line max_witness_file) → IsWitnessFileAnswer shape witness a
-long_witness shape witness a long is =
-    let longer : nat_lt max_witness_file (length witness) ≡ true = grind (arith, nat_tests) in
-    subst (λ b. MatchBool b (a ≡ answer TooLong (too_long_line max_witness_file)) (IsWitnessAnswer shape witness a)) (sym longer) is
-
--- a file of tables whose shape is known, and the answer to the witness
-pub shaped_check : (text witness : List ℕ) (shape : ShapeParts) (a : Answer) → IsShapedFile text (shaped.Shape shape) → IsWitnessFileAnswer shape witness a → IsCheckAnswer text witness a
-shaped_check text witness shape a (within, once, (decls, is, found)) answered =
-    within_limit text a (IsTextAnswer text (λ decls a. IsShapeAnswer decls witness a) a) within
-    (inr (decls, is, subst (λ (r : Result ShapeParts ShapeFault). MatchResult r (λ s. IsWitnessFileAnswer s witness a) (λ fault. a ≡ answer Tables (shape_fault_line fault))) (sym found) answered))
+    subst (λ b. MatchBool b (a ≡ answer TooLong (too_long_line max_witness_file)) (IsWitnessAnswer Answers shape witness a)) (sym short) is
 
 -- a file of tables that are printed
 pub printed_file : (text : List ℕ) (decls : List Decl) (a : Answer) → IsParsedFile text (parsed.Tables decls) → IsPrinted decls a → IsPrintAnswer text a

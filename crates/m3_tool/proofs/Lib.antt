@@ -1,4 +1,6 @@
 pub mod HexDigits
+pub mod WordNumbers
+pub mod LoweredText
 pub mod AnswerSteps
 pub mod OneAnswerDue
 pub mod Runs

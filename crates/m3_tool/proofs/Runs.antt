@@ -1,21 +1,21 @@
 -- What the answer to words says of a run.
 use Rattle.std.proofs.Common.{◌≡◌, ◌≢◌, ℕ, List, true, false, Option, Some, None, Result, Ok, Err, refl, sym, ◌∙◌, ap, subst, arith, inl, inr}
 use Rattle.std.specs.Prelude.{IsTrue, IfOk, OnOk}
-use Rattle.byte_ends.specs.Shelf.{ShelfState, bytes_of, ReadFailed, SameFaults, ReadsOnly}
+use Rattle.byte_ends.specs.Shelf.{ShelfState, bytes_of, SameFaults, ReadsOnly}
 use Rattle.table_text.specs.Canonical.{canonical}
 use Rattle.m3_tool.specs.declared.status.Status.{Status}
 use Rattle.m3_tool.specs.declared.status.Status.TheVariants.{Yes, No, Words, Tables, Witness, ReadFault, WriteFault, TooLarge, NoMemory, TooLong}
 use Rattle.m3_tool.specs.declared.tables.Stop.{Stop}
 use Rattle.m3_tool.specs.declared.tables.Stop.TheVariants as ended
 use Rattle.m3_tool.specs.declared.answer.Answer.{Answer as OwnAnswer}
-use Rattle.m3_tool.specs.Command.{Command, check, print}
+use Rattle.m3_tool.specs.Command.{Command, check, print, lower}
 use Rattle.m3_tool.specs.Checking.{EndsCheck, OnReadFault, UnlessReadFault}
-use Rattle.m3_tool.specs.Run.{Answer, answer, CheckReadsFailed, IsCheckAnswer, IsPrintAnswer, IsDue, ReadsFailed, fileless_answer, is_outside}
+use Rattle.m3_tool.specs.Run.{Answer, answer, HasWitness, IsDue, ReadsFailed, fileless_answer, is_outside}
 use Rattle.m3_tool.specs.Lines.{satisfied_line}
 use Rattle.m3_tool.specs.Headline.{EndsWith, MayPut, SaysWhether}
-use Rattle.m3_tool.specs.Answer.{IsFileReadOnce, IsAnswered, Stops, answer_of}
-use Rattle.m3_tool.proofs.OneAnswerDue.{check_once, print_once}
-use Rattle.m3_tool.proofs.Verdicts.{satisfied_due, violated_due, print_due}
+use Rattle.m3_tool.specs.Answer.{IsCommandReadOnce, IsAnswered, Stops, answer_of}
+use Rattle.m3_tool.proofs.OneAnswerDue.{due_once}
+use Rattle.m3_tool.proofs.Verdicts.{satisfied_due, violated_due, print_due, lowered_due}
 
 not_words : (s : Status) → EndsCheck s → s ≡ Words → ⊥
 not_words s ends is = subst EndsCheck is ends
@@ -31,10 +31,10 @@ not_memory s ends is = subst EndsCheck is ends
 
 -- a command that ends by the bytes of its files
 pub answered : (c d : Option Command) (old new : ShelfState) (a : Answer) → c ≡ d → d ≢ None → fileless_answer d ≡ None
-    → (IsTrue old.told → IsDue d old a) → (IsTrue old.told → (b : Answer) → IsDue d old b → b.status ≡ a.status) → EndsCheck a.status → SameFaults old new → ReadsOnly old new → IsAnswered c old new a
-answered c d old new a is fits files due only ends quiet reads_only = subst (λ (e : Option Command). IsAnswered e old new a) (sym is) (record {
+    → (IsTrue old.told → IsDue d old a) → (IsTrue old.told → IsCommandReadOnce d old) → EndsCheck a.status → SameFaults old new → ReadsOnly old new → IsAnswered c old new a
+answered c d old new a is fits files due once ends quiet reads_only = subst (λ (e : Option Command). IsAnswered e old new a) (sym is) (record {
   due = λ told inside. due told;
-  only = λ told inside b also. only told b also;
+  once = λ told inside. once told;
   fileless = λ b e. absurd (none_some (sym files ∙ e));
   fits = λ s. absurd (not_words a.status ends s);
   read_fault = λ s. absurd (not_reading a.status ends s);
@@ -52,7 +52,7 @@ pub stopped : (c d : Option Command) (old new : ShelfState) (s : Stop) (a : Answ
     → (s ≡ ended.ReadFault → ReadsFailed d old new) → (s ≢ ended.ReadFault → SameFaults old new) → ReadsOnly old new → IsAnswered c old new a
 stopped c d old new ended.ReadFault a is fits files stops failed quiet reads_only = subst (λ (e : Option Command). IsAnswered e old new a) (sym is) (record {
   due = λ told inside. absurd (outside (sym (ap (λ (x : Answer). is_outside x.status) stops) ∙ inside));
-  only = λ told inside. absurd (outside (sym (ap (λ (x : Answer). is_outside x.status) stops) ∙ inside));
+  once = λ told inside. absurd (outside (sym (ap (λ (x : Answer). is_outside x.status) stops) ∙ inside));
   fileless = λ b e. absurd (none_some (sym files ∙ e));
   fits = λ s. absurd (reading_words (sym (ap (λ (x : Answer). x.status) stops) ∙ s));
   read_fault = λ _. (failed refl, ap (λ (x : Answer). x.line) stops);
@@ -78,7 +78,7 @@ stopped c d old new ended.ReadFault a is fits files stops failed quiet reads_onl
     reading_writing e = cc
 stopped c d old new ended.NoMemory a is fits files stops failed quiet reads_only = subst (λ (e : Option Command). IsAnswered e old new a) (sym is) (record {
   due = λ told inside. absurd (outside (sym (ap (λ (x : Answer). is_outside x.status) stops) ∙ inside));
-  only = λ told inside. absurd (outside (sym (ap (λ (x : Answer). is_outside x.status) stops) ∙ inside));
+  once = λ told inside. absurd (outside (sym (ap (λ (x : Answer). is_outside x.status) stops) ∙ inside));
   fileless = λ b e. absurd (none_some (sym files ∙ e));
   fits = λ s. absurd (memory_words (sym (ap (λ (x : Answer). x.status) stops) ∙ s));
   read_fault = λ s. absurd (memory_reading (sym (ap (λ (x : Answer). x.status) stops) ∙ s));
@@ -105,39 +105,17 @@ stopped c d old new ended.NoMemory a is fits files stops failed quiet reads_only
 
 -- what a command answered, or what stopped it
 pub concluded : (c d : Option Command) (old new : ShelfState) (r : Result OwnAnswer Stop) (a : Answer) → c ≡ d → d ≢ None → fileless_answer d ≡ None → Stops r a
-    → (IsTrue old.told → IfOk r (λ x. IsDue d old (answer_of x))) → (IsTrue old.told → IfOk r (λ x. (b : Answer) → IsDue d old b → b.status ≡ x.status)) → IfOk r (λ x. EndsCheck x.status)
+    → (IsTrue old.told → IfOk r (λ x. IsDue d old (answer_of x))) → (IsTrue old.told → OnOk r (IsCommandReadOnce d old)) → IfOk r (λ x. EndsCheck x.status)
     → OnReadFault r (ReadsFailed d old new) → UnlessReadFault r (SameFaults old new) → ReadsOnly old new → IsAnswered c old new a
-concluded c d old new (Ok x) a is fits files stops due only ends failed quiet reads_only =
-    subst (IsAnswered c old new) (sym stops) (answered c d old new (answer_of x) is fits files due only ends quiet reads_only)
-concluded c d old new (Err ended.ReadFault) a is fits files stops due only ends failed quiet reads_only =
+concluded c d old new (Ok x) a is fits files stops due once ends failed quiet reads_only =
+    subst (IsAnswered c old new) (sym stops) (answered c d old new (answer_of x) is fits files due once ends quiet reads_only)
+concluded c d old new (Err ended.ReadFault) a is fits files stops due once ends failed quiet reads_only =
     stopped c d old new ended.ReadFault a is fits files stops (λ _. failed) (λ other. absurd (other refl)) reads_only
-concluded c d old new (Err ended.NoMemory) a is fits files stops due only ends failed quiet reads_only =
+concluded c d old new (Err ended.NoMemory) a is fits files stops due once ends failed quiet reads_only =
     stopped c d old new ended.NoMemory a is fits files stops (λ e. absurd (apart e)) (λ _. quiet) reads_only
   where
     apart : ended.NoMemory ≡ ended.ReadFault → ⊥
     apart e = cc
-
-only_check : (old : ShelfState) (tables witness : List ℕ) (r : Result OwnAnswer Stop) → (IsTrue old.told → IfOk r (λ x. IsDue (Some (check tables witness)) old (answer_of x))) → (IsTrue old.told → OnOk r (IsFileReadOnce (bytes_of old tables)))
-    → IsTrue old.told → IfOk r (λ x. (b : Answer) → IsDue (Some (check tables witness)) old b → b.status ≡ x.status)
-only_check old tables witness (Ok x) due once told = λ b also. check_once (bytes_of old tables) (bytes_of old witness) (answer_of x) b (once told) (due told) also
-only_check old tables witness (Err s) due once told = tt
-
-only_print : (old : ShelfState) (tables : List ℕ) (r : Result OwnAnswer Stop) → (IsTrue old.told → IfOk r (λ x. IsDue (Some (print tables)) old (answer_of x))) → (IsTrue old.told → OnOk r (IsFileReadOnce (bytes_of old tables)))
-    → IsTrue old.told → IfOk r (λ x. (b : Answer) → IsDue (Some (print tables)) old b → b.status ≡ x.status)
-only_print old tables (Ok x) due once told = λ b also. print_once (bytes_of old tables) (answer_of x) b (once told) (due told) also
-only_print old tables (Err s) due once told = tt
-
-pub checked : (c : Option Command) (tables witness : List ℕ) (old new : ShelfState) (r : Result OwnAnswer Stop) (a : Answer) → c ≡ Some (check tables witness) → Stops r a
-    → (IsTrue old.told → IfOk r (λ x. IsCheckAnswer (bytes_of old tables) (bytes_of old witness) (answer_of x))) → (IsTrue old.told → OnOk r (IsFileReadOnce (bytes_of old tables))) → IfOk r (λ x. EndsCheck x.status)
-    → OnReadFault r (CheckReadsFailed old new tables witness) → UnlessReadFault r (SameFaults old new) → ReadsOnly old new → IsAnswered c old new a
-checked c tables witness old new r a is stops due once ends failed quiet reads_only =
-    concluded c (Some (check tables witness)) old new r a is (λ e. cc) refl stops due (only_check old tables witness r due once) ends failed quiet reads_only
-
-pub printed_so : (c : Option Command) (tables : List ℕ) (old new : ShelfState) (r : Result OwnAnswer Stop) (a : Answer) → c ≡ Some (print tables) → Stops r a
-    → (IsTrue old.told → IfOk r (λ x. IsPrintAnswer (bytes_of old tables) (answer_of x))) → (IsTrue old.told → OnOk r (IsFileReadOnce (bytes_of old tables))) → IfOk r (λ x. EndsCheck x.status)
-    → OnReadFault r (ReadFailed old new tables) → UnlessReadFault r (SameFaults old new) → ReadsOnly old new → IsAnswered c old new a
-printed_so c tables old new r a is stops due once ends failed quiet reads_only =
-    concluded c (Some (print tables)) old new r a is (λ e. cc) refl stops due (only_print old tables r due once) ends failed quiet reads_only
 
 pub no_fault : (shelf : ShelfState) → SameFaults shelf shelf
 no_fault shelf = record {
@@ -154,11 +132,11 @@ reads_nothing shelf = record {
 }
 
 -- a fixed text that is due whatever the files are
-pub printed : (c d : Option Command) (shelf : ShelfState) (line : List ℕ) (a : Answer) → c ≡ d → d ≢ None → ((b : Answer) → IsDue d shelf b → b ≡ answer Yes line) → fileless_answer d ≡ Some (answer Yes line) → IsDue d shelf a → a ≡ answer Yes line
+pub printed : (c d : Option Command) (shelf : ShelfState) (line : List ℕ) (a : Answer) → c ≡ d → d ≢ None → IsCommandReadOnce d shelf → fileless_answer d ≡ Some (answer Yes line) → IsDue d shelf a → a ≡ answer Yes line
     → IsAnswered c shelf shelf a
-printed c d shelf line a is fits one at_once due same = subst (λ (e : Option Command). IsAnswered e shelf shelf a) (sym is) (record {
+printed c d shelf line a is fits once at_once due same = subst (λ (e : Option Command). IsAnswered e shelf shelf a) (sym is) (record {
   due = λ told inside. due;
-  only = λ told inside b also. ap (λ (x : Answer). x.status) (one b also ∙ sym same);
+  once = λ told inside. once;
   fileless = λ b e. same ∙ some_same (sym at_once ∙ e);
   fits = λ s. absurd (yes_words (sym (ap (λ (x : Answer). x.status) same) ∙ s));
   read_fault = λ s. absurd (yes_reading (sym (ap (λ (x : Answer). x.status) same) ∙ s));
@@ -204,13 +182,25 @@ ends_with : (c : Option Command) (old new : ShelfState) (a b : Answer) → IsAns
 ends_with c old new a b is told due =
     elim (is_outside a.status) as (λ t. is_outside a.status ≡ t → EndsWith b.status a.status) [
       | true ↦ λ e. inr e
-      | false ↦ λ e. inl (sym (is.only told e b due))
+      | false ↦ λ e. inl (sym (due_once c old a b (is.once told e) (is.due told e) due))
     ] refl
 
--- a check whose files are accepted is answered by its verdict
+-- a lower whose files are accepted says Yes, unless the outside ends the run
+ends_lowered : (c : Option Command) (tables witness : List ℕ) (alpha gamma : ℕ) (old new : ShelfState) (a : Answer) → IsAnswered c old new a → c ≡ Some (lower tables witness alpha gamma) → IsTrue old.told
+    → HasWitness (bytes_of old tables) (bytes_of old witness) → EndsWith Yes a.status
+ends_lowered c tables witness alpha gamma old new a is named told has =
+    elim (is_outside a.status) as (λ t. is_outside a.status ≡ t → EndsWith Yes a.status) [
+      | true ↦ λ e. inr e
+      | false ↦ λ e. inl
+          (lowered_due alpha gamma (bytes_of old tables) (bytes_of old witness) a has (subst (λ (d : Option Command). IsCommandReadOnce d old) named (is.once told e))
+          (subst (λ (d : Option Command). IsDue d old a) named (is.due told e)))
+    ] refl
+
+-- a command whose files are accepted is answered by what they come to
 pub says_whether : (c : Option Command) (old new : ShelfState) (a : Answer) → IsAnswered c old new a → SaysWhether c old a.status
 says_whether c old new a is = record {
   yes = λ tables witness e told s. ends_with c old new a (answer Yes satisfied_line) is told (subst (λ (d : Option Command). IsDue d old (answer Yes satisfied_line)) (sym e) (satisfied_due (bytes_of old tables) (bytes_of old witness) s));
   printed = λ tables e told has. ends_with c old new a (answer Yes (canonical has.decls)) is told (subst (λ (d : Option Command). IsDue d old (answer Yes (canonical has.decls))) (sym e) (print_due (bytes_of old tables) has));
   no = λ tables witness line e told v. ends_with c old new a (answer No line) is told (subst (λ (d : Option Command). IsDue d old (answer No line)) (sym e) (violated_due (bytes_of old tables) (bytes_of old witness) line v));
+  lowered = λ tables witness alpha gamma e told has. ends_lowered c tables witness alpha gamma old new a is e told has;
 }

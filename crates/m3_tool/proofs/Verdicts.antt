@@ -1,9 +1,10 @@
--- A check that answers Yes or No has read tables and a witness.
+-- A command that answers Yes or No has read its files, and one whose files are accepted is answered so.
 use Rattle.std.proofs.Common.{◌≡◌, ◌≤◌, ℕ, List, length, Bool, true, false, Result, Ok, Err, refl, sym, ◌∙◌, ap, subst, inl, inr, arith}
 use Rattle.std.specs.Prelude.{nat_lt, IsTrue, MatchResult}
 use Rattle.std.specs.Bool.{MatchBool}
 use Rattle.std.proofs.lemmas.Bool.Decides.{nat_tests}
 use Rattle.table_text.specs.declared.decl.Decl.{Decl}
+use Rattle.table_text.specs.declared.fault.TextFault.{TextFault}
 use Rattle.table_text.specs.Canonical.{canonical}
 use Rattle.table_text.specs.Faults.{IsTablesText}
 use Rattle.m3_tool.specs.Limits.{max_tables_file, max_witness_file}
@@ -16,12 +17,13 @@ use Rattle.m3_tool.specs.declared.status.Status.TheVariants.{Yes, No, Words, Tab
 use Rattle.table_shape.specs.Shape.{shape_of}
 use Rattle.witness_reader.specs.Witness.{WitnessData, witness_of, filling_of}
 use Rattle.m3_tool.specs.Lines.{satisfied_line, too_long_line, shape_fault_line}
-use Rattle.m3_tool.specs.Run.{Answer, answer, CheckReadsFailed, IsJudgement, IsWitnessAnswer, IsWitnessFileAnswer, IsShapeAnswer, IsTextAnswer, IsCheckAnswer, IsPrinted, IsPrintAnswer, HasDecls, HasShape, HasWitness, IsSatisfied, IsViolated, witness_refusal}
-use Rattle.m3_tool.specs.declared.check.Shaped.TheVariants as shaped
-use Rattle.m3_tool.specs.declared.check.Shaped.{Shaped}
+use Rattle.m3_tool.specs.Run.{Answer, answer, ToValues, WitnessReadsFailed, IsJudgement, IsLowered, IsWitnessAnswer, IsWitnessFileAnswer, IsShapeAnswer, IsTextAnswer, IsReadAnswer, IsCheckAnswer, IsLowerAnswer, IsPrinted, IsPrintAnswer, HasDecls, HasShape, HasWitness, IsSatisfied, IsViolated, witness_refusal}
+use Rattle.m3_tool.specs.declared.witness.Shaped.TheVariants as shaped
+use Rattle.m3_tool.specs.declared.witness.Shaped.{Shaped}
 use Rattle.m3_tool.specs.declared.tables.Stop.{Stop}
 use Rattle.m3_tool.specs.declared.tables.Stop.TheVariants as ended
 use Rattle.m3_tool.specs.declared.answer.Answer.{Answer as OwnAnswer}
+use Rattle.m3_tool.specs.Answer.{IsFileReadOnce}
 use Rattle.m3_tool.specs.Checking.{IsShapedFile, OnReadFault}
 use Rattle.byte_ends.specs.Shelf.{ShelfState, bytes_of, ReadFailed, ReadsOnly, SameFaults}
 use Rattle.byte_ends.proofs.ReadSteps.{failed_since}
@@ -53,41 +55,41 @@ refusal (stop.Fault fault) h = h
 refusal (stop.TooLarge log_bits) h = h
 refusal stop.NoMemory h = h
 
--- tables and a witness were read, and the witness was judged
-record IsJudged (text witness : List ℕ) (a : Answer) : Type 0 where
-  read : HasWitness text witness
-  judgement : IsJudgement read.shape.parts read.given.rows (filling_of read.shape.parts.tables read.given) a
+-- tables and a witness were read, and the values were answered
+pub record IsAnsweredSo (Answers : ToValues) (text witness : List ℕ) (a : Answer) : Type 0 where
+  pub read : HasWitness text witness
+  pub answered : Answers read.shape.parts read.given.rows (filling_of read.shape.parts.tables read.given) a
 
-of_witness : (text witness : List ℕ) (shape : HasShape text) (a : Answer) (r : Result WitnessData WitnessStop) → length witness ≤ max_witness_file → witness_of shape.parts.tables witness ≡ r
-    → MatchResult r (λ (w : WitnessData). IsJudgement shape.parts w.rows (filling_of shape.parts.tables w) a) (λ stop. a ≡ witness_refusal stop) → IsVerdictStatus a.status → IsJudged text witness a
-of_witness text witness shape a (Ok w) within read p h = record {
+of_witness : (Answers : ToValues) (text witness : List ℕ) (shape : HasShape text) (a : Answer) (r : Result WitnessData WitnessStop) → length witness ≤ max_witness_file → witness_of shape.parts.tables witness ≡ r
+    → MatchResult r (λ (w : WitnessData). Answers shape.parts w.rows (filling_of shape.parts.tables w) a) (λ stop. a ≡ witness_refusal stop) → IsVerdictStatus a.status → IsAnsweredSo Answers text witness a
+of_witness Answers text witness shape a (Ok w) within read p h = record {
   read = record { shape = shape; given = w; within = within; witness_is = (read_where_given shape.parts.tables witness w).0 read };
-  judgement = p;
+  answered = p;
 }
-of_witness text witness shape a (Err s) within read p h = absurd (refusal s (verdict_of a (witness_refusal s) p h))
+of_witness Answers text witness shape a (Err s) within read p h = absurd (refusal s (verdict_of a (witness_refusal s) p h))
 
-of_file : (text witness : List ℕ) (shape : HasShape text) (a : Answer) (t : Bool) → nat_lt max_witness_file (length witness) ≡ t
-    → MatchBool t (a ≡ answer TooLong (too_long_line max_witness_file)) (IsWitnessAnswer shape.parts witness a) → IsVerdictStatus a.status → IsJudged text witness a
-of_file text witness shape a true long p h = absurd (verdict_of a (answer TooLong (too_long_line max_witness_file)) p h)
-of_file text witness shape a false long p h = of_witness text witness shape a (witness_of shape.parts.tables witness) (not_longer max_witness_file (length witness) long) refl p h
+of_file : (Answers : ToValues) (text witness : List ℕ) (shape : HasShape text) (a : Answer) (t : Bool) → nat_lt max_witness_file (length witness) ≡ t
+    → MatchBool t (a ≡ answer TooLong (too_long_line max_witness_file)) (IsWitnessAnswer Answers shape.parts witness a) → IsVerdictStatus a.status → IsAnsweredSo Answers text witness a
+of_file Answers text witness shape a true long p h = absurd (verdict_of a (answer TooLong (too_long_line max_witness_file)) p h)
+of_file Answers text witness shape a false long p h = of_witness Answers text witness shape a (witness_of shape.parts.tables witness) (not_longer max_witness_file (length witness) long) refl p h
 
-of_shape : (text witness : List ℕ) (decls : List Decl) (a : Answer) (r : Result ShapeParts ShapeFault) → length text ≤ max_tables_file → IsTablesText text decls → shape_of decls ≡ r
-    → MatchResult r (λ shape. IsWitnessFileAnswer shape witness a) (λ fault. a ≡ answer Tables (shape_fault_line fault)) → IsVerdictStatus a.status → IsJudged text witness a
-of_shape text witness decls a (Ok tables) within is shaped p h =
-    of_file text witness (record { decls = decls; parts = tables; within = within; text_is = is; shape_is = (shaped_where_meant decls tables).0 shaped }) a (nat_lt max_witness_file (length witness)) refl p h
-of_shape text witness decls a (Err fault) within is shaped p h = absurd (verdict_of a (answer Tables (shape_fault_line fault)) p h)
+of_shape : (Answers : ToValues) (text witness : List ℕ) (decls : List Decl) (a : Answer) (r : Result ShapeParts ShapeFault) → length text ≤ max_tables_file → IsTablesText text decls → shape_of decls ≡ r
+    → MatchResult r (λ shape. IsWitnessFileAnswer Answers shape witness a) (λ fault. a ≡ answer Tables (shape_fault_line fault)) → IsVerdictStatus a.status → IsAnsweredSo Answers text witness a
+of_shape Answers text witness decls a (Ok tables) within is shaped p h =
+    of_file Answers text witness (record { decls = decls; parts = tables; within = within; text_is = is; shape_is = (shaped_where_meant decls tables).0 shaped }) a (nat_lt max_witness_file (length witness)) refl p h
+of_shape Answers text witness decls a (Err fault) within is shaped p h = absurd (verdict_of a (answer Tables (shape_fault_line fault)) p h)
 
-of_text : (text witness : List ℕ) (a : Answer) → length text ≤ max_tables_file → IsTextAnswer text (λ decls a. IsShapeAnswer decls witness a) a → IsVerdictStatus a.status → IsJudged text witness a
-of_text text witness a within (inl (fault, is, p)) h = absurd (verdict_of a _ p h)
-of_text text witness a within (inr (decls, is, p)) h = of_shape text witness decls a (shape_of decls) within is refl p h
+of_text : (Answers : ToValues) (text witness : List ℕ) (a : Answer) → length text ≤ max_tables_file → IsTextAnswer text (IsShapeAnswer Answers witness) a → IsVerdictStatus a.status → IsAnsweredSo Answers text witness a
+of_text Answers text witness a within (inl (fault, is, p)) h = absurd (verdict_of a _ p h)
+of_text Answers text witness a within (inr (decls, is, p)) h = of_shape Answers text witness decls a (shape_of decls) within is refl p h
 
-of_tables : (text witness : List ℕ) (a : Answer) (t : Bool) → nat_lt max_tables_file (length text) ≡ t → MatchBool t (a ≡ answer TooLong (too_long_line max_tables_file)) (IsTextAnswer text (λ decls a. IsShapeAnswer decls witness a) a) → IsVerdictStatus a.status
-    → IsJudged text witness a
-of_tables text witness a true long p h = absurd (verdict_of a (answer TooLong (too_long_line max_tables_file)) p h)
-of_tables text witness a false long p h = of_text text witness a (not_longer max_tables_file (length text) long) p h
+of_tables : (Answers : ToValues) (text witness : List ℕ) (a : Answer) (t : Bool) → nat_lt max_tables_file (length text) ≡ t → MatchBool t (a ≡ answer TooLong (too_long_line max_tables_file)) (IsTextAnswer text (IsShapeAnswer Answers witness) a) → IsVerdictStatus a.status
+    → IsAnsweredSo Answers text witness a
+of_tables Answers text witness a true long p h = absurd (verdict_of a (answer TooLong (too_long_line max_tables_file)) p h)
+of_tables Answers text witness a false long p h = of_text Answers text witness a (not_longer max_tables_file (length text) long) p h
 
-judged : (text witness : List ℕ) (a : Answer) → IsCheckAnswer text witness a → IsVerdictStatus a.status → IsJudged text witness a
-judged text witness a p h = of_tables text witness a (nat_lt max_tables_file (length text)) refl p h
+answered : (Answers : ToValues) (text witness : List ℕ) (a : Answer) → IsReadAnswer Answers text witness a → IsVerdictStatus a.status → IsAnsweredSo Answers text witness a
+answered Answers text witness a p h = of_tables Answers text witness a (nat_lt max_tables_file (length text)) refl p h
 
 yes_or_no : (a : Answer) (s : Status) → a.status ≡ s → IsVerdictStatus s → IsVerdictStatus a.status
 yes_or_no a s e h = subst IsVerdictStatus (sym e) h
@@ -96,32 +98,36 @@ apart : Yes ≡ No → ⊥
 apart e = cc
 
 pub satisfied : (text witness : List ℕ) (a : Answer) → IsCheckAnswer text witness a → a.status ≡ Yes → IsSatisfied text witness × (a.line ≡ satisfied_line)
-satisfied text witness a p is_yes = let j = judged text witness a p (yes_or_no a Yes is_yes tt) in by_judgement j j.judgement
+satisfied text witness a p is_yes = let j = answered IsJudgement text witness a p (yes_or_no a Yes is_yes tt) in by_judgement j j.answered
   where
-    by_judgement : (j : IsJudged text witness a) → IsJudgement j.read.shape.parts j.read.given.rows (filling_of j.read.shape.parts.tables j.read.given) a → IsSatisfied text witness × (a.line ≡ satisfied_line)
+    by_judgement : (j : IsAnsweredSo IsJudgement text witness a) → IsJudgement j.read.shape.parts j.read.given.rows (filling_of j.read.shape.parts.tables j.read.given) a → IsSatisfied text witness × (a.line ≡ satisfied_line)
     by_judgement j (inl q) = (record { read = j.read; satisfies = q.0 }, ap (λ (x : Answer). x.line) q.1)
     by_judgement j (inr (v, first, q)) = absurd (apart (sym is_yes ∙ ap (λ (x : Answer). x.status) q))
 
 pub violated : (text witness : List ℕ) (a : Answer) → IsCheckAnswer text witness a → a.status ≡ No → IsViolated text witness a.line
-violated text witness a p is_no = let j = judged text witness a p (yes_or_no a No is_no tt) in by_judgement j j.judgement
+violated text witness a p is_no = let j = answered IsJudgement text witness a p (yes_or_no a No is_no tt) in by_judgement j j.answered
   where
-    by_judgement : (j : IsJudged text witness a) → IsJudgement j.read.shape.parts j.read.given.rows (filling_of j.read.shape.parts.tables j.read.given) a → IsViolated text witness a.line
+    by_judgement : (j : IsAnsweredSo IsJudgement text witness a) → IsJudgement j.read.shape.parts j.read.given.rows (filling_of j.read.shape.parts.tables j.read.given) a → IsViolated text witness a.line
     by_judgement j (inl q) = absurd (apart (sym (ap (λ (x : Answer). x.status) q.1) ∙ is_no))
     by_judgement j (inr (v, first, q)) = record { read = j.read; violation = v; first = first; line_is = ap (λ (x : Answer). x.line) q }
+
+-- a lower that says Yes has read values, whose products it puts
+pub lowered : (alpha gamma : ℕ) (text witness : List ℕ) (a : Answer) → IsLowerAnswer alpha gamma text witness a → a.status ≡ Yes → IsAnsweredSo (IsLowered alpha gamma) text witness a
+lowered alpha gamma text witness a p is_yes = answered (IsLowered alpha gamma) text witness a p (yes_or_no a Yes is_yes tt)
 
 -- what the values are judged to be is due to the files that give them
 judgement_due : (text witness : List ℕ) (a : Answer) (read : HasWitness text witness) → IsJudgement read.shape.parts read.given.rows (filling_of read.shape.parts.tables read.given) a → IsCheckAnswer text witness a
 judgement_due text witness a read judged =
     let shaped = (shaped_where_meant read.shape.decls read.shape.parts).1 read.shape.shape_is in
     let given = (read_where_given read.shape.parts.tables witness read.given).1 read.witness_is in
-    let witness_due : IsWitnessAnswer read.shape.parts witness a =
+    let witness_due : IsWitnessAnswer IsJudgement read.shape.parts witness a =
     subst (λ (r : Result WitnessData WitnessStop). MatchResult r (λ (w : WitnessData). IsJudgement read.shape.parts w.rows (filling_of read.shape.parts.tables w) a) (λ stop. a ≡ witness_refusal stop)) (sym given) judged in
-    let file_due = within_witness read.shape.parts witness a read.within witness_due in
-    within_limit text a (IsTextAnswer text (λ decls a. IsShapeAnswer decls witness a) a) read.shape.within
+    let file_due = within_witness IsJudgement read.shape.parts witness a read.within witness_due in
+    within_limit text a (IsTextAnswer text (IsShapeAnswer IsJudgement witness) a) read.shape.within
     (inr (
       read.shape.decls,
       read.shape.text_is,
-      subst (λ (r : Result ShapeParts ShapeFault). MatchResult r (λ s. IsWitnessFileAnswer s witness a) (λ fault. a ≡ answer Tables (shape_fault_line fault))) (sym shaped) file_due,
+      subst (λ (r : Result ShapeParts ShapeFault). MatchResult r (λ s. IsWitnessFileAnswer IsJudgement s witness a) (λ fault. a ≡ answer Tables (shape_fault_line fault))) (sym shaped) file_due,
     ))
 
 pub satisfied_due : (text witness : List ℕ) → IsSatisfied text witness → IsCheckAnswer text witness (answer Yes satisfied_line)
@@ -129,6 +135,40 @@ satisfied_due text witness is = judgement_due text witness (answer Yes satisfied
 
 pub violated_due : (text witness line : List ℕ) → IsViolated text witness line → IsCheckAnswer text witness (answer No line)
 violated_due text witness line is = judgement_due text witness (answer No line) is.read (inr (is.violation, is.first, ap (answer No) is.line_is))
+
+of_short : (limit len : ℕ) (A B : Type 0) → len ≤ limit → MatchBool (nat_lt limit len) A B → B
+of_short limit len A B within p = let short : nat_lt limit len ≡ false = grind (arith, nat_tests) in subst (λ t. MatchBool t A B) short p
+
+of_ok : {X E : Type 0} (r : Result X E) (x : X) (P : X → Type 0) (Q : E → Type 0) → r ≡ Ok x → MatchResult r P Q → P x
+of_ok r x P Q e p = subst (λ s. MatchResult s P Q) e p
+
+-- files that are accepted have the answer to their values
+given_answered : (Answers : ToValues) (text witness : List ℕ) (a : Answer) (read : HasWitness text witness) → IsFileReadOnce text → IsReadAnswer Answers text witness a
+    → Answers read.shape.parts read.given.rows (filling_of read.shape.parts.tables read.given) a
+given_answered Answers text witness a read once p = by_text (of_short max_tables_file (length text) (a ≡ answer TooLong (too_long_line max_tables_file)) (IsTextAnswer text (IsShapeAnswer Answers witness) a) read.shape.within p)
+  where
+    not_both : (f : TextFault) (d : List Decl) → ◌≡◌ {A = Result (List Decl) TextFault} (Err f) (Ok d) → ⊥
+    not_both f d e = cc
+
+    same_decls : (d e : List Decl) → ◌≡◌ {A = Result (List Decl) TextFault} (Ok d) (Ok e) → d ≡ e
+    same_decls d e h = cc
+
+    by_text : IsTextAnswer text (IsShapeAnswer Answers witness) a → Answers read.shape.parts read.given.rows (filling_of read.shape.parts.tables read.given) a
+    by_text (inl (fault, is, q)) = absurd (not_both fault read.shape.decls (sym ((once read.shape.within).fault fault is) ∙ (once read.shape.within).decls read.shape.decls read.shape.text_is))
+    by_text (inr (decls, is, q)) =
+        let same : decls ≡ read.shape.decls = same_decls decls read.shape.decls (sym ((once read.shape.within).decls decls is) ∙ (once read.shape.within).decls read.shape.decls read.shape.text_is) in
+        let own : IsShapeAnswer Answers witness read.shape.decls a = subst (λ (ds : List Decl). IsShapeAnswer Answers witness ds a) same q in
+        let shaped = (shaped_where_meant read.shape.decls read.shape.parts).1 read.shape.shape_is in
+        let file : IsWitnessFileAnswer Answers read.shape.parts witness a =
+        of_ok (shape_of read.shape.decls) read.shape.parts (λ shape. IsWitnessFileAnswer Answers shape witness a) (λ fault. a ≡ answer Tables (shape_fault_line fault)) shaped own in
+        let short : IsWitnessAnswer Answers read.shape.parts witness a =
+        of_short max_witness_file (length witness) (a ≡ answer TooLong (too_long_line max_witness_file)) (IsWitnessAnswer Answers read.shape.parts witness a) read.within file in
+        let given = (read_where_given read.shape.parts.tables witness read.given).1 read.witness_is in
+        of_ok (witness_of read.shape.parts.tables witness) read.given (λ (w : WitnessData). Answers read.shape.parts w.rows (filling_of read.shape.parts.tables w) a) (λ stop. a ≡ witness_refusal stop) given short
+
+-- a lower whose files are accepted says Yes
+pub lowered_due : (alpha gamma : ℕ) (text witness : List ℕ) (a : Answer) → HasWitness text witness → IsFileReadOnce text → IsLowerAnswer alpha gamma text witness a → a.status ≡ Yes
+lowered_due alpha gamma text witness a read once p = ap (λ (x : Answer). x.status) (given_answered (IsLowered alpha gamma) text witness a read once p).is
 
 -- a print that says Yes has read tables
 pub printed : (text : List ℕ) (a : Answer) → IsPrintAnswer text a → a.status ≡ Yes → (decls : List Decl) × IsTablesText text decls × (a.line ≡ canonical decls)
@@ -159,7 +199,7 @@ on_read_fault (Err ended.NoMemory) P Q f p = p
 
 -- a read of the witness that failed after the shape was found
 pub witness_read_failed : (old mid new : ShelfState) (tables witness : List ℕ) (shape : Shaped) (shapes : ShapeParts) (r : Result OwnAnswer Stop) → shape ≡ shaped.Shape shapes
-    → (IsTrue old.told → IsShapedFile (bytes_of old tables) shape) → ReadsOnly old mid → SameFaults old mid → OnReadFault r (ReadFailed mid new witness) → OnReadFault r (CheckReadsFailed old new tables witness)
+    → (IsTrue old.told → IsShapedFile (bytes_of old tables) shape) → ReadsOnly old mid → SameFaults old mid → OnReadFault r (ReadFailed mid new witness) → OnReadFault r (WitnessReadsFailed old new tables witness)
 witness_read_failed old mid new tables witness shape shapes r is found kept same failed =
-    on_read_fault r (ReadFailed mid new witness) (CheckReadsFailed old new tables witness)
+    on_read_fault r (ReadFailed mid new witness) (WitnessReadsFailed old new tables witness)
     (λ f. inr (failed_since kept same f, λ told. has_shape (bytes_of old tables) shapes (subst (IsShapedFile (bytes_of old tables)) is (found told)))) failed

@@ -11,9 +11,9 @@ use Rattle.m3_tool.specs.declared.answer.Answer.{Answer as OwnAnswer}
 use Rattle.m3_tool.specs.declared.tables.Stop.{Stop}
 use Rattle.m3_tool.specs.declared.tables.Stop.TheVariants as stop
 use Rattle.m3_tool.specs.Run.{Answer, answer, IsDue, ReadsFailed, fileless_answer, is_outside}
-use Rattle.byte_ends.specs.Shelf.{ShelfState, SameFaults, ReadsOnly}
+use Rattle.byte_ends.specs.Shelf.{ShelfState, bytes_of, SameFaults, ReadsOnly}
 use Rattle.m3_tool.specs.declared.status.Status.TheVariants.{Words, ReadFault, WriteFault, NoMemory}
-use Rattle.m3_tool.specs.Command.{Command}
+use Rattle.m3_tool.specs.Command.{Command, check, print, lower, help, version}
 use Rattle.m3_tool.specs.Lines.{read_fault_line, no_memory_line}
 
 abbrev pub line_of : Text → List ℕ
@@ -39,10 +39,19 @@ pub record IsReadOnce (text : List ℕ) : Type 0 where
 abbrev pub IsFileReadOnce : List ℕ → Type 0
 IsFileReadOnce text = length text ≤ max_tables_file → IsReadOnce text
 
+-- the text of the tables that a command names is read once
+abbrev pub IsCommandReadOnce : Option Command → ShelfState → Type 0
+IsCommandReadOnce None shelf = Unit {0}
+IsCommandReadOnce (Some (check tables witness)) shelf = IsFileReadOnce (bytes_of shelf tables)
+IsCommandReadOnce (Some (print tables)) shelf = IsFileReadOnce (bytes_of shelf tables)
+IsCommandReadOnce (Some (lower tables witness alpha gamma)) shelf = IsFileReadOnce (bytes_of shelf tables)
+IsCommandReadOnce (Some help) shelf = Unit {0}
+IsCommandReadOnce (Some version) shelf = Unit {0}
+
 -- an answer to words, by the shelf before and after
 pub record IsAnswered (c : Option Command) (old new : ShelfState) (a : Answer) : Type 0 where
   pub due : IsTrue old.told → is_outside a.status ≡ false → IsDue c old a
-  pub only : IsTrue old.told → is_outside a.status ≡ false → (b : Answer) → IsDue c old b → b.status ≡ a.status
+  pub once : IsTrue old.told → is_outside a.status ≡ false → IsCommandReadOnce c old
   pub fileless : (b : Answer) → fileless_answer c ≡ Some b → a ≡ b
   pub fits : a.status ≡ Words → c ≡ None
   pub read_fault : a.status ≡ ReadFault → ReadsFailed c old new × (a.line ≡ read_fault_line)

@@ -1,4 +1,4 @@
--- What the steps of a check say.
+-- What the steps of a check and of a lower say.
 -- Source: docs/ARCHITECTURE.md, "Within m3_tool".
 use Rattle.std.specs.Prelude.{◌≡◌, ◌≤◌, ℕ, List, length, Result, Ok, Err}
 use Rattle.table_text.specs.declared.decl.Decl.{Decl}
@@ -6,17 +6,24 @@ use Rattle.table_text.specs.Faults.{IsTablesText}
 use Rattle.m3_tool.specs.Limits.{max_tables_file}
 use Rattle.m3_tool.specs.declared.tables.Parsed.{Parsed}
 use Rattle.m3_tool.specs.declared.tables.Parsed.TheVariants as parsed
-use Rattle.m3_tool.specs.declared.check.Shaped.{Shaped}
-use Rattle.m3_tool.specs.declared.check.Shaped.TheVariants as shaped
+use Rattle.m3_tool.specs.declared.witness.Shaped.{Shaped}
+use Rattle.m3_tool.specs.declared.witness.Shaped.TheVariants as shaped
+use Rattle.m3_tool.specs.declared.witness.Question.{Question}
+use Rattle.m3_tool.specs.declared.witness.Question.TheVariants.{Satisfied, Lowered}
 use Rattle.m3_tool.specs.declared.status.Status.{Status}
 use Rattle.m3_tool.specs.declared.status.Status.TheVariants.{Yes, No, Words, Tables, Witness, ReadFault, WriteFault, TooLarge, NoMemory, TooLong}
 use Rattle.table_shape.specs.Shape.{shape_of}
-use Rattle.m3_tool.specs.Run.{answer, IsTextRefusal, OfTablesFile, IsCheckAnswer}
+use Rattle.m3_tool.specs.Run.{answer, ToValues, IsJudgement, IsLowered, IsTextRefusal, OfTablesFile, IsReadAnswer}
 use Rattle.m3_tool.specs.Lines.{shape_fault_line}
 use Rattle.table_shape.specs.declared.fault.ShapeFault.{ShapeFault}
 use Rattle.m3_tool.specs.declared.tables.Stop.{Stop}
 use Rattle.m3_tool.specs.declared.tables.Stop.TheVariants as stop
 use Rattle.m3_tool.specs.Answer.{answer_of, IsFileReadOnce}
+
+-- what answers a question to values
+abbrev pub Answering : Question → ToValues
+Answering Satisfied = IsJudgement
+Answering (Lowered alpha gamma) = IsLowered alpha gamma
 
 -- the declarations of a text, or the answer to a text that has none
 abbrev pub IsParsed : List ℕ → Parsed → Type 0
@@ -33,10 +40,10 @@ abbrev pub IsShapedTables : List Decl → Shaped → Type 0
 IsShapedTables decls (shaped.Shape shape) = shape_of decls ≡ Ok shape
 IsShapedTables decls (shaped.Refused a) = (fault : ShapeFault) × (shape_of decls ≡ Err fault) × (answer_of a ≡ answer Tables (shape_fault_line fault))
 
--- the shape of a file, or the answer to a file that has none, whatever the witness is
+-- the shape of a file, or the answer to a file that has none, whatever the witness is and whatever is asked of it
 abbrev pub IsShapedFile : List ℕ → Shaped → Type 0
 IsShapedFile text (shaped.Shape shape) = (length text ≤ max_tables_file) × IsFileReadOnce text × ((decls : List Decl) × IsTablesText text decls × (shape_of decls ≡ Ok shape))
-IsShapedFile text (shaped.Refused a) = IsFileReadOnce text × ((witness : List ℕ) → IsCheckAnswer text witness (answer_of a))
+IsShapedFile text (shaped.Refused a) = IsFileReadOnce text × ((question : Question) (witness : List ℕ) → IsReadAnswer (Answering question) text witness (answer_of a))
 
 abbrev pub OnReadFault : {X : Type 0} → Result X Stop → Type 0 → Type 0
 OnReadFault (Ok x) P = Unit {0}
@@ -48,7 +55,7 @@ UnlessReadFault (Ok x) P = P
 UnlessReadFault (Err stop.ReadFault) P = Unit {0}
 UnlessReadFault (Err stop.NoMemory) P = P
 
--- a status that a check ends with by the bytes of its files
+-- a status that a command ends with by the bytes of its files
 abbrev pub EndsCheck : Status → Type 0
 EndsCheck Yes = Unit {0}
 EndsCheck No = Unit {0}

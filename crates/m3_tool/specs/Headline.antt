@@ -1,6 +1,6 @@
 -- What a run promises.
 -- Source: docs/FORMATS.md, "Commands" and "What is printed"; docs/ENDS.md, "What the calls do".
-use Rattle.std.specs.Prelude.{◌≡◌, ◌≢◌, ℕ, ◌⊎◌, IsTrue, List, Option, Some}
+use Rattle.std.specs.Prelude.{◌≡◌, ◌≢◌, ◌↔◌, ℕ, ◌⊎◌, IsTrue, Bool, true, List, Option, Some}
 use Rattle.byte_ends.specs.Counts.{Rose}
 use Rattle.byte_ends.specs.Shelf.{ShelfState, bytes_of}
 use Rattle.byte_ends.specs.Sink.{SinkState, Puts, PutsPrefix}
@@ -9,9 +9,12 @@ use Rattle.m3_tool.specs.declared.status.Status.TheVariants.{Yes, No, ReadFault,
 use Rattle.table_text.specs.declared.decl.Decl.{Decl}
 use Rattle.table_text.specs.Canonical.{canonical}
 use Rattle.table_text.specs.Faults.{IsTablesText}
-use Rattle.m3_tool.specs.Command.{Command, check, print}
-use Rattle.m3_tool.specs.Lines.{satisfied_line, read_fault_line, no_memory_line}
-use Rattle.m3_tool.specs.Run.{Answer, HasDecls, IsDue, IsSatisfied, IsViolated, ReadsFailed, fileless_answer, is_outside}
+use Rattle.table_shape.specs.Lowering.{LoweredHolds}
+use Rattle.table_shape.specs.Satisfies.{Satisfies}
+use Rattle.witness_reader.specs.Witness.{filling_of}
+use Rattle.m3_tool.specs.Command.{Command, check, print, lower}
+use Rattle.m3_tool.specs.Lines.{satisfied_line, lowered_text, read_fault_line, no_memory_line}
+use Rattle.m3_tool.specs.Run.{Answer, HasDecls, HasWitness, IsDue, IsSatisfied, IsViolated, ReadsFailed, fileless_answer, is_outside}
 
 -- the answer that is due has this status, and its line was put
 pub record PutsDue (c : Option Command) (shelf : ShelfState) (old new : SinkState) (status : Status) : Type 0 where
@@ -39,6 +42,19 @@ abbrev pub SaysPrinted : Option Command → ShelfState → SinkState → SinkSta
 SaysPrinted c shelf old new status =
     (tables : List ℕ) → c ≡ Some (print tables) → IsTrue shelf.told → status ≡ Yes → (decls : List Decl) × IsTablesText (bytes_of shelf tables) decls × Puts old new (canonical decls)
 
+-- the products at alpha and gamma of the values that a witness gives, with `holds` exactly where the lowered statement does, and so where the values satisfy the tables
+pub record PutsLowered (text witness : List ℕ) (alpha gamma : ℕ) (old new : SinkState) : Type 0 where
+  pub read : HasWitness text witness
+  pub holds : Bool
+  pub exact : IsTrue holds ↔ LoweredHolds read.shape.parts read.given.rows (filling_of read.shape.parts.tables read.given) alpha gamma
+  pub satisfied : Satisfies read.shape.parts read.given.rows (filling_of read.shape.parts.tables read.given) → holds ≡ true
+  pub puts : Puts old new (lowered_text read.shape.parts read.given.rows (filling_of read.shape.parts.tables read.given) alpha gamma holds)
+
+-- a lower that says Yes has read a witness that gives values to the tables, and puts their products
+abbrev pub SaysLowered : Option Command → ShelfState → SinkState → SinkState → Status → Type 0
+SaysLowered c shelf old new status =
+    (tables witness : List ℕ) (alpha gamma : ℕ) → c ≡ Some (lower tables witness alpha gamma) → IsTrue shelf.told → status ≡ Yes → PutsLowered (bytes_of shelf tables) (bytes_of shelf witness) alpha gamma old new
+
 -- words that name no file have their answer, whatever the shelf tells, unless a write fails
 abbrev pub AnswersWords : Option Command → SinkState → SinkState → Status → Type 0
 AnswersWords c old new status = (a : Answer) → fileless_answer c ≡ Some a → ((status ≡ a.status) × Puts old new a.line) ⊎ ((status ≡ WriteFault) × Rose old.faults new.faults)
@@ -47,11 +63,12 @@ AnswersWords c old new status = (a : Answer) → fileless_answer c ≡ Some a �
 abbrev pub EndsWith : Status → Status → Type 0
 EndsWith expected status = (status ≡ expected) ⊎ IsTrue (is_outside status)
 
--- a check whose files are accepted says whether the witness satisfies the tables, and a print of accepted tables says Yes, unless the outside ends the run
+-- a check whose files are accepted says whether the witness satisfies the tables, and a print or a lower of accepted files says Yes, unless the outside ends the run
 pub record SaysWhether (c : Option Command) (shelf : ShelfState) (status : Status) : Type 0 where
   pub yes : (tables witness : List ℕ) → c ≡ Some (check tables witness) → IsTrue shelf.told → IsSatisfied (bytes_of shelf tables) (bytes_of shelf witness) → EndsWith Yes status
   pub no : (tables witness line : List ℕ) → c ≡ Some (check tables witness) → IsTrue shelf.told → IsViolated (bytes_of shelf tables) (bytes_of shelf witness) line → EndsWith No status
   pub printed : (tables : List ℕ) → c ≡ Some (print tables) → IsTrue shelf.told → HasDecls (bytes_of shelf tables) → EndsWith Yes status
+  pub lowered : (tables witness : List ℕ) (alpha gamma : ℕ) → c ≡ Some (lower tables witness alpha gamma) → IsTrue shelf.told → HasWitness (bytes_of shelf tables) (bytes_of shelf witness) → EndsWith Yes status
 
 -- where no count of faults rose, the outside ends a run by want of memory alone
 abbrev pub IsUndisturbed : ShelfState → ShelfState → SinkState → SinkState → Status → Type 0

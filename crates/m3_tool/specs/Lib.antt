@@ -1,5 +1,6 @@
 pub mod Limits
 pub mod Status
+pub mod Number
 pub mod Command
 pub mod Lines
 pub mod Run

@@ -1,8 +1,9 @@
 -- The lines that are printed.
 -- Source: docs/FORMATS.md, "What is printed".
-use Rattle.std.specs.Prelude.{ℕ, false, List, [], ◌++◌, map, codes}
+use Rattle.std.specs.Prelude.{ℕ, ◌+◌, Bool, false, true, List, [], ◌∷◌, ◌++◌, map, codes}
 use Rattle.std.specs.Fmt.{decimal, digits}
 use Rattle.table_text.specs.Canonical.{joined}
+use Rattle.table_text.specs.declared.decl.Side.TheVariants.{Push, Pull}
 use Rattle.table_text.specs.declared.fault.TextFault.{TextFault}
 use Rattle.table_text.specs.declared.fault.TextKind.{TextKind}
 use Rattle.table_text.specs.declared.fault.TextKind.TheVariants as text
@@ -19,6 +20,7 @@ use Rattle.table_shape.specs.declared.shape.ConstraintShape.{ConstraintShape}
 use Rattle.table_shape.specs.declared.shape.TableShape.{TableShape}
 use Rattle.table_shape.specs.Parts.{ShapeParts}
 use Rattle.table_shape.specs.Filling.{Filling}
+use Rattle.table_shape.specs.Lowering.{side_product}
 use Rattle.table_shape.specs.Satisfies.{NonZero, Unequal, Violation, nonzero, unequal, IsFirstViolation}
 
 -- a number in hexadecimal digits
@@ -50,6 +52,24 @@ unequal_line channel v =
 abbrev pub violation_line : (shape : ShapeParts) (rows : List ℕ) (filling : Filling) (v : Violation) → IsFirstViolation shape rows filling v → List ℕ
 violation_line shape rows filling (nonzero v) first = nonzero_line first.table first.constraint v
 violation_line shape rows filling (unequal v) first = unequal_line first.1.channel v
+
+-- the products of a channel's two sides
+abbrev pub channel_line : List ℕ → ℕ → ℕ → List ℕ
+channel_line name push pull = codes "channel " ++ name ++ codes " push " ++ value_text push ++ codes " pull " ++ value_text pull ++ codes "\n"
+
+-- those of the channels numbered from c on, at alpha a and gamma g
+abbrev pub channel_lines : ShapeParts → List ℕ → Filling → ℕ → ℕ → ℕ → List ChannelShape → List ℕ
+channel_lines shape rows filling a g c [] = []
+channel_lines shape rows filling a g c (channel ∷ channels) =
+    channel_line channel.name (side_product Push shape rows filling a g c) (side_product Pull shape rows filling a g c) ++ channel_lines shape rows filling a g (c + 1) channels
+
+-- whether the lowered statement holds
+abbrev pub holds_line : Bool → List ℕ
+holds_line true = codes "holds\n"
+holds_line false = codes "fails\n"
+
+abbrev pub lowered_text : ShapeParts → List ℕ → Filling → ℕ → ℕ → Bool → List ℕ
+lowered_text shape rows filling a g holds = channel_lines shape rows filling a g 0 shape.channels ++ holds_line holds
 
 abbrev pub text_kind_name : TextKind → List ℕ
 text_kind_name text.NotText = codes "NotText"
@@ -120,6 +140,6 @@ version_line = codes "bm3 0.1.0\n"
 
 unfoldable pub help_text : List ℕ
 help_text =
-    codes "bm3 check TABLES WITNESS\n    Says whether a witness satisfies tables. Reads both files and writes none.\n" ++ codes "bm3 print TABLES\n    Prints the canonical text of tables. Reads the file and writes none.\n" ++ codes "bm3 --help\n    Prints this text.\n" ++ codes "bm3 --version\n    Prints the version.\n"
-    ++ codes "Statuses:\n    0   satisfied, or the text was printed\n    1   the witness violates the tables\n    2   the words fit no command\n    3   the text of the tables or their shape is refused\n    4   the witness is refused\n"
+    codes "bm3 check TABLES WITNESS\n    Says whether a witness satisfies tables. Reads both files and writes none.\n" ++ codes "bm3 print TABLES\n    Prints the canonical text of tables. Reads the file and writes none.\n" ++ codes "bm3 lower TABLES WITNESS ALPHA GAMMA\n    Prints the products of each channel at two numbers. Reads both files and writes none.\n" ++ codes "bm3 --help\n    Prints this text.\n" ++ codes "bm3 --version\n    Prints the version.\n"
+    ++ codes "Statuses:\n    0   satisfied, or the text or the products were printed\n    1   the witness violates the tables\n    2   the words fit no command\n    3   the text of the tables or their shape is refused\n    4   the witness is refused\n"
     ++ codes "    6   a read failed\n    7   a write failed\n    8   the columns take too many bits\n    9   out of memory\n    10  a file is too long\n"

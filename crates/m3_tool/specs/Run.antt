@@ -1,6 +1,6 @@
 -- What is due to words, by the bytes of the files.
 -- Source: docs/FORMATS.md, "Commands", "What is printed" and "Limits".
-use Rattle.std.specs.Prelude.{◌≡◌, ℕ, ◌⊎◌, ◌≤◌, nat_lt, IsTrue, Bool, true, false, List, length, Option, Some, None, MatchResult}
+use Rattle.std.specs.Prelude.{◌≡◌, ◌↔◌, ℕ, ◌⊎◌, ◌≤◌, nat_lt, IsTrue, Bool, true, false, List, length, Option, Some, None, MatchResult}
 use Rattle.std.specs.Bool.{MatchBool}
 use Rattle.byte_ends.specs.Shelf.{ShelfState, bytes_of, ReadFailed}
 use Rattle.table_text.specs.declared.decl.Decl.{Decl}
@@ -16,11 +16,12 @@ use Rattle.table_shape.specs.Parts.{ShapeParts}
 use Rattle.table_shape.specs.Shape.{shape_of}
 use Rattle.table_shape.specs.ShapeMeaning.{IsShape}
 use Rattle.table_shape.specs.Filling.{Filling}
+use Rattle.table_shape.specs.Lowering.{LoweredHolds}
 use Rattle.table_shape.specs.Satisfies.{Satisfies, Violation, IsFirstViolation}
 use Rattle.witness_reader.specs.Witness.{WitnessData, witness_of, filling_of}
 use Rattle.witness_reader.specs.WitnessMeaning.{GivesWitness}
-use Rattle.m3_tool.specs.Command.{Command, check, print, help, version}
-use Rattle.m3_tool.specs.Lines.{satisfied_line, violation_line, text_fault_line, shape_fault_line, witness_fault_line, too_large_line, too_long_line, words_line, no_memory_line, help_text, version_line}
+use Rattle.m3_tool.specs.Command.{Command, check, print, lower, help, version}
+use Rattle.m3_tool.specs.Lines.{satisfied_line, violation_line, lowered_text, text_fault_line, shape_fault_line, witness_fault_line, too_large_line, too_long_line, words_line, no_memory_line, help_text, version_line}
 
 -- how a run ends, and what it puts
 pub record Answer : Type 0 where
@@ -30,28 +31,39 @@ pub record Answer : Type 0 where
 abbrev pub answer : Status → List ℕ → Answer
 answer status line = record { status = status; line = line }
 
+-- an answer to the values that a witness gives to tables
+abbrev pub ToValues : Type 1
+ToValues = ShapeParts → List ℕ → Filling → Answer → Type 0
+
 -- the values satisfy the tables, or this is the first violation
-abbrev pub IsJudgement : ShapeParts → List ℕ → Filling → Answer → Type 0
+abbrev pub IsJudgement : ToValues
 IsJudgement shape rows filling a =
     (Satisfies shape rows filling × (a ≡ answer Yes satisfied_line))
     ⊎ ((v : Violation) × (first : IsFirstViolation shape rows filling v) × (a ≡ answer No (violation_line shape rows filling v first)))
+
+-- the products at alpha and gamma, and whether the lowered statement holds, as it does where the values satisfy the tables
+pub record IsLowered (alpha gamma : ℕ) (shape : ShapeParts) (rows : List ℕ) (filling : Filling) (a : Answer) : Type 0 where
+  pub holds : Bool
+  pub exact : IsTrue holds ↔ LoweredHolds shape rows filling alpha gamma
+  pub satisfied : Satisfies shape rows filling → IsTrue holds
+  pub is : a ≡ answer Yes (lowered_text shape rows filling alpha gamma holds)
 
 abbrev pub witness_refusal : WitnessStop → Answer
 witness_refusal (stop.Fault fault) = answer Witness (witness_fault_line fault)
 witness_refusal (stop.TooLarge log_bits) = answer TooLarge (too_large_line log_bits)
 witness_refusal stop.NoMemory = answer NoMemory no_memory_line
 
--- the witness is refused, or the values that it gives are judged
-abbrev pub IsWitnessAnswer : ShapeParts → List ℕ → Answer → Type 0
-IsWitnessAnswer shape witness a = MatchResult (witness_of shape.tables witness) (λ (w : WitnessData). IsJudgement shape w.rows (filling_of shape.tables w) a) (λ stop. a ≡ witness_refusal stop)
+-- the witness is refused, or the values that it gives have such an answer
+abbrev pub IsWitnessAnswer : ToValues → ShapeParts → List ℕ → Answer → Type 0
+IsWitnessAnswer Answers shape witness a = MatchResult (witness_of shape.tables witness) (λ (w : WitnessData). Answers shape w.rows (filling_of shape.tables w) a) (λ stop. a ≡ witness_refusal stop)
 
 -- a file of a witness is too long, or it is read
-abbrev pub IsWitnessFileAnswer : ShapeParts → List ℕ → Answer → Type 0
-IsWitnessFileAnswer shape witness a = MatchBool (nat_lt max_witness_file (length witness)) (a ≡ answer TooLong (too_long_line max_witness_file)) (IsWitnessAnswer shape witness a)
+abbrev pub IsWitnessFileAnswer : ToValues → ShapeParts → List ℕ → Answer → Type 0
+IsWitnessFileAnswer Answers shape witness a = MatchBool (nat_lt max_witness_file (length witness)) (a ≡ answer TooLong (too_long_line max_witness_file)) (IsWitnessAnswer Answers shape witness a)
 
 -- the declarations have no shape, or the witness is read
-abbrev pub IsShapeAnswer : List Decl → List ℕ → Answer → Type 0
-IsShapeAnswer decls witness a = MatchResult (shape_of decls) (λ shape. IsWitnessFileAnswer shape witness a) (λ fault. a ≡ answer Tables (shape_fault_line fault))
+abbrev pub IsShapeAnswer : ToValues → List ℕ → List Decl → Answer → Type 0
+IsShapeAnswer Answers witness decls a = MatchResult (shape_of decls) (λ shape. IsWitnessFileAnswer Answers shape witness a) (λ fault. a ≡ answer Tables (shape_fault_line fault))
 
 -- the first fault of a text
 abbrev pub IsTextRefusal : List ℕ → Answer → Type 0
@@ -68,14 +80,22 @@ OfTablesFile text a Judged = MatchBool (nat_lt max_tables_file (length text)) (a
 abbrev pub IsTablesAnswer : List ℕ → (List Decl → Answer → Type 0) → Answer → Type 0
 IsTablesAnswer text Answers a = OfTablesFile text a (IsTextAnswer text Answers a)
 
--- the declarations of a check are resolved
+-- tables are read and resolved, and a witness for them
+abbrev pub IsReadAnswer : ToValues → List ℕ → List ℕ → Answer → Type 0
+IsReadAnswer Answers text witness a = IsTablesAnswer text (IsShapeAnswer Answers witness) a
+
+-- the values of a check are judged
 abbrev pub IsCheckAnswer : List ℕ → List ℕ → Answer → Type 0
-IsCheckAnswer text witness a = IsTablesAnswer text (λ decls a. IsShapeAnswer decls witness a) a
+IsCheckAnswer text witness a = IsReadAnswer IsJudgement text witness a
+
+-- those of a lower are lowered
+abbrev pub IsLowerAnswer : ℕ → ℕ → List ℕ → List ℕ → Answer → Type 0
+IsLowerAnswer alpha gamma text witness a = IsReadAnswer (IsLowered alpha gamma) text witness a
 
 abbrev pub IsPrinted : List Decl → Answer → Type 0
 IsPrinted decls a = a ≡ answer Yes (canonical decls)
 
--- those of a print are printed
+-- the declarations of a print are printed
 abbrev pub IsPrintAnswer : List ℕ → Answer → Type 0
 IsPrintAnswer text a = IsTablesAnswer text IsPrinted a
 
@@ -84,6 +104,7 @@ abbrev pub IsDue : Option Command → ShelfState → Answer → Type 0
 IsDue None shelf a = a ≡ answer Words words_line
 IsDue (Some (check tables witness)) shelf a = IsCheckAnswer (bytes_of shelf tables) (bytes_of shelf witness) a
 IsDue (Some (print tables)) shelf a = IsPrintAnswer (bytes_of shelf tables) a
+IsDue (Some (lower tables witness alpha gamma)) shelf a = IsLowerAnswer alpha gamma (bytes_of shelf tables) (bytes_of shelf witness) a
 IsDue (Some help) shelf a = a ≡ answer Yes help_text
 IsDue (Some version) shelf a = a ≡ answer Yes version_line
 
@@ -92,6 +113,7 @@ abbrev pub fileless_answer : Option Command → Option Answer
 fileless_answer None = Some (answer Words words_line)
 fileless_answer (Some (check tables witness)) = None
 fileless_answer (Some (print tables)) = None
+fileless_answer (Some (lower tables witness alpha gamma)) = None
 fileless_answer (Some help) = Some (answer Yes help_text)
 fileless_answer (Some version) = Some (answer Yes version_line)
 
@@ -145,14 +167,15 @@ pub record IsViolated (text witness line : List ℕ) : Type 0 where
 abbrev pub DueReadFailed : ShelfState → ShelfState → List ℕ → Type 0 → Type 0
 DueReadFailed old new name Accepted = ReadFailed old new name × (IsTrue old.told → Accepted)
 
--- a read that a check makes has failed, and was due
-abbrev pub CheckReadsFailed : ShelfState → ShelfState → List ℕ → List ℕ → Type 0
-CheckReadsFailed old new tables witness = ReadFailed old new tables ⊎ DueReadFailed old new witness (HasShape (bytes_of old tables))
+-- a read that a check or a lower makes has failed, and was due
+abbrev pub WitnessReadsFailed : ShelfState → ShelfState → List ℕ → List ℕ → Type 0
+WitnessReadsFailed old new tables witness = ReadFailed old new tables ⊎ DueReadFailed old new witness (HasShape (bytes_of old tables))
 
 -- the same of any command
 abbrev pub ReadsFailed : Option Command → ShelfState → ShelfState → Type 0
 ReadsFailed None old new = ⊥
-ReadsFailed (Some (check tables witness)) old new = CheckReadsFailed old new tables witness
+ReadsFailed (Some (check tables witness)) old new = WitnessReadsFailed old new tables witness
 ReadsFailed (Some (print tables)) old new = ReadFailed old new tables
+ReadsFailed (Some (lower tables witness alpha gamma)) old new = WitnessReadsFailed old new tables witness
 ReadsFailed (Some help) old new = ⊥
 ReadsFailed (Some version) old new = ⊥

@@ -5,10 +5,13 @@ mod answer;
 mod check;
 pub mod limits;
 mod lines;
+mod lower;
+mod number;
 mod print;
 mod running;
 mod status;
 mod tables;
+mod witness;
 mod words;
 
 pub use running::run;

@@ -1,14 +1,16 @@
 //! The lines that are printed.
 
-ghost use Rattle.std.specs.Prelude.{◌≡◌, ◌++◌, ◌<◌, ℕ, List, map, IfOk, OnOk, codes, false};
+ghost use Rattle.std.specs.Prelude.{◌≡◌, ◌++◌, ◌<◌, ℕ, List, length, map, IfOk, OnOk, codes, false};
 ghost use Rattle.std.specs.Fmt.{decimal, digit_glyph};
 ghost use Rattle.table_text.specs.Canonical.{joined};
 ghost use Rattle.table_shape.specs.Filling.{Filling};
 ghost use Rattle.table_shape.specs.Satisfies.{IsFirstViolation};
 ghost use Rattle.m3_judge.specs.Judging.{violation_of};
-ghost use Rattle.m3_tool.specs.Lines.{hex, nonzero_line, unequal_line, value_text, place_name, shape_fault_line, shape_kind_name, text_fault_line, text_kind_name, too_large_line, too_long_line, violated, violation_line, witness_fault_line, witness_kind_name};
+ghost use Rattle.oracle_lowering.specs.Products.{ArePairs};
+ghost use Rattle.m3_tool.specs.Lines.{channel_line, hex, holds_line, lowered_text, nonzero_line, unequal_line, value_text, place_name, shape_fault_line, shape_kind_name, text_fault_line, text_kind_name, too_large_line, too_long_line, violated, violation_line, witness_fault_line, witness_kind_name};
 
 use m3_judge::Violation;
+use oracle_lowering::{Pair, Products};
 use std::alloc::{AllocError, Global};
 use table_shape::{ChannelShape, ConstraintShape, Shape, ShapeFault, ShapeKind, TableShape};
 use table_text::{TextFault, TextKind};
@@ -185,6 +187,49 @@ pub fn violation_line(
             unequal_line(alloc, channel, tuple.as_slice(), *pushed, *pulled)
         }
     }
+}
+
+/// Appends the line of a channel's products.
+fn push_channel(
+    alloc: Global,
+    text: &mut Vec<u8>,
+    channel: &ChannelShape,
+    pair: Pair,
+) -> Result<(), AllocError>
+    ensures { OnOk result (text.new.items ≡ text.old.items ++ channel_line channel.now.name pair.push pair.pull) }
+{
+    push(text, b"channel ")?;
+    push(text, channel.name.as_slice())?;
+    push(text, b" push ")?;
+    push_value(alloc, text, pair.push)?;
+    push(text, b" pull ")?;
+    push_value(alloc, text, pair.pull)?;
+    push(text, b"\n")
+}
+
+fn holds_line(holds: bool) -> &'static str
+    ensures { result.now ≡ holds_line holds }
+{
+    if holds { "holds\n" } else { "fails\n" }
+}
+
+/// The lines of the channels' products, and whether the lowered statement holds.
+pub fn lowered_text(
+    alloc: Global,
+    shape: &Shape,
+    products: &Products,
+) -> Result<Vec<u8>, AllocError>
+    requires { length products.now.pairs ≡ length shape.now.channels }
+    ensures { IfOk result (λ text. (rows : List ℕ) (filling : Filling) (a g : ℕ) → ArePairs shape.now rows filling a g products.now.pairs → text.items ≡ lowered_text shape.now rows filling a g products.now.holds) }
+{
+    let channels = shape.channels();
+    let pairs = products.pairs.as_slice();
+    let mut text = Vec::new(alloc);
+    for c in 0..channels.len() {
+        push_channel(alloc, &mut text, &channels[c], pairs[c])?;
+    }
+    push(&mut text, holds_line(products.holds).as_bytes())?;
+    Ok(text)
 }
 
 fn text_kind_name(kind: TextKind) -> &'static str

@@ -8,13 +8,13 @@ ghost use Rattle.m3_tool.specs.Answer.{IsAnswered, Stops, answer_of};
 ghost use Rattle.m3_tool.specs.Command.{command_of};
 ghost use Rattle.m3_tool.specs.Lines.{help_text, no_memory_line, read_fault_line};
 ghost use Rattle.m3_tool.specs.Run.{ReadsFailed, answer, is_outside};
-ghost use Rattle.m3_tool.specs.Headline.{AnswersWords, IsUndisturbed, OnlyDue, PutsDue, PutsPart, SaysPrinted, SaysSatisfied, SaysViolated, SaysWhether};
+ghost use Rattle.m3_tool.specs.Headline.{AnswersWords, IsUndisturbed, OnlyDue, PutsDue, PutsPart, SaysLowered, SaysPrinted, SaysSatisfied, SaysViolated, SaysWhether};
 
 use crate::answer::{Answer, fixed};
-use crate::check::check;
 use crate::print::print;
 use crate::status::Status;
 use crate::tables::Stop;
+use crate::witness::{Question, answer_to_files};
 use crate::words::{Command, command_of};
 use byte_ends::{Shelf, Sink, WriteFault, put_whole};
 use std::alloc::Global;
@@ -23,12 +23,14 @@ const HELP: &str = "bm3 check TABLES WITNESS
     Says whether a witness satisfies tables. Reads both files and writes none.
 bm3 print TABLES
     Prints the canonical text of tables. Reads the file and writes none.
+bm3 lower TABLES WITNESS ALPHA GAMMA
+    Prints the products of each channel at two numbers. Reads both files and writes none.
 bm3 --help
     Prints this text.
 bm3 --version
     Prints the version.
 Statuses:
-    0   satisfied, or the text was printed
+    0   satisfied, or the text or the products were printed
     1   the witness violates the tables
     2   the words fit no command
     3   the text of the tables or their shape is refused
@@ -73,8 +75,25 @@ fn answer_to<S: Shelf>(alloc: Global, words: &[String], shelf: &mut S) -> Answer
                 tables_file,
                 witness_file,
             },
-        ) => answer_or_stop(check(alloc, shelf, tables_file, witness_file)),
+        ) => answer_or_stop(answer_to_files(
+            alloc,
+            shelf,
+            tables_file,
+            witness_file,
+            Question::Satisfied,
+        )),
         Some(Command::Print { tables_file }) => answer_or_stop(print(alloc, shelf, tables_file)),
+        Some(
+            Command::Lower {
+                tables_file,
+                witness_file,
+                alpha,
+                gamma,
+            },
+        ) => {
+            let question = Question::Lowered { alpha, gamma };
+            answer_or_stop(answer_to_files(alloc, shelf, tables_file, witness_file, question))
+        }
     }
 }
 
@@ -82,7 +101,8 @@ fn answer_to<S: Shelf>(alloc: Global, words: &[String], shelf: &mut S) -> Answer
 /// as soon as it is read, and puts the answer in one text.
 ///
 /// The first refusal ends the run. `bm3 check TABLES WITNESS` reads the tables and judges their
-/// text and their shape before it reads the witness. No command writes a file.
+/// text and their shape before it reads the witness, and `bm3 lower TABLES WITNESS ALPHA GAMMA`
+/// reads the same files in the same order. No command writes a file.
 pub fn run<S: Shelf, W: Sink>(alloc: Global, words: &[String], shelf: &mut S, out: &mut W) -> Status
     // The headline: a check says Yes where the witness satisfies the tables, and No, with the
     // first violation, where it doesn't.
@@ -91,6 +111,10 @@ pub fn run<S: Shelf, W: Sink>(alloc: Global, words: &[String], shelf: &mut S, ou
 
     // A print says Yes where the tables are read, and puts their canonical text.
     ensures printed { SaysPrinted (command_of (map string_bytes words.now)) (S.state shelf.old) (W.state out.old) (W.state out.new) result }
+
+    // A lower says Yes where the files are accepted, and puts the products of each channel, with
+    // `holds` exactly where the lowered statement holds, and so where the witness satisfies the tables.
+    ensures lowered { SaysLowered (command_of (map string_bytes words.now)) (S.state shelf.old) (W.state out.old) (W.state out.new) result }
 
     // Where the files are told, each status but those of the outside is the one that is due, with
     // its line, and none but those comes where another is due.

@@ -1,8 +1,10 @@
 //! The words of the program, and the command that they mean.
 
 ghost use Rattle.std.specs.Prelude.{◌≡◌, [], ◌∷◌, map, string_bytes};
-ghost use Rattle.m3_tool.specs.Command.{command_of};
+ghost use Rattle.m3_tool.specs.Command.{command_of, lower_of};
 ghost use Rattle.m3_tool.specs.Words.{seen};
+
+use crate::number::number_of;
 
 /// A command, with the files that it names.
 #[derive(Clone, Copy)]
@@ -13,6 +15,12 @@ pub(crate) enum Command<'a> {
     },
     Print {
         tables_file: &'a str,
+    },
+    Lower {
+        tables_file: &'a str,
+        witness_file: &'a str,
+        alpha: u128,
+        gamma: u128,
     },
     Help,
     Version,
@@ -31,6 +39,23 @@ fn command_of_word(word: &str) -> Option<Command<'static>>
     }
 }
 
+/// A lower of two files, if both of its words spell numbers.
+fn lower_of<'a>(
+    tables_file: &'a str,
+    witness_file: &'a str,
+    alpha: Option<u128>,
+    gamma: Option<u128>,
+) -> Option<Command<'a>>
+    ensures { seen result ≡ lower_of tables_file.now witness_file.now alpha gamma }
+{
+    Some(Command::Lower {
+        tables_file,
+        witness_file,
+        alpha: alpha?,
+        gamma: gamma?,
+    })
+}
+
 /// The command that words mean, if they fit a pattern.
 pub(crate) fn command_of(words: &[String]) -> Option<Command<'_>>
     ensures { seen result ≡ command_of (map string_bytes words.now) }
@@ -44,6 +69,12 @@ pub(crate) fn command_of(words: &[String]) -> Option<Command<'_>>
             tables_file: tables.as_str(),
             witness_file: witness.as_str(),
         }),
+        [word, tables, witness, alpha, gamma] if word.as_str() == "lower" => lower_of(
+            tables.as_str(),
+            witness.as_str(),
+            number_of(alpha.as_str()),
+            number_of(gamma.as_str()),
+        ),
         _ => None,
     }
 }
