@@ -155,4 +155,6 @@ pub fn run<S: Shelf, W: Sink>(alloc: Global, words: &[String], shelf: &mut S, ou
 #[cfg(test)]
 mod channel_tests;
 #[cfg(test)]
+mod lower_tests;
+#[cfg(test)]
 mod tests;
