@@ -5,6 +5,7 @@
 
 mod ending;
 mod expressions;
+mod given;
 mod group;
 mod laws;
 mod no_memory;
@@ -15,6 +16,7 @@ mod zero_prover;
 mod zero_walk;
 mod zeroed;
 
+pub use given::has_lists;
 pub use group::{Group, has_group};
 pub use laws::zeros_keep_truth;
 pub use no_memory::NoMemory;
