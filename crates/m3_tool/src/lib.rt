@@ -14,5 +14,5 @@ mod tables;
 mod witness;
 mod words;
 
-pub use running::run;
+pub use running::{HELP, run};
 pub use status::Status;

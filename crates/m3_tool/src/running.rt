@@ -19,7 +19,8 @@ use crate::words::{Command, command_of};
 use byte_ends::{Shelf, Sink, WriteFault, put_whole};
 use std::alloc::Global;
 
-const HELP: &str = "bm3 check TABLES WITNESS
+/// What `--help` prints.
+pub const HELP: &str = "bm3 check TABLES WITNESS
     Says whether a witness satisfies tables. Reads both files and writes none.
 bm3 print TABLES
     Prints the canonical text of tables. Reads the file and writes none.
@@ -151,10 +152,3 @@ pub fn run<S: Shelf, W: Sink>(alloc: Global, words: &[String], shelf: &mut S, ou
         Err(WriteFault) => Status::WriteFault,
     }
 }
-
-#[cfg(test)]
-mod channel_tests;
-#[cfg(test)]
-mod lower_tests;
-#[cfg(test)]
-mod tests;

@@ -1,8 +1,8 @@
 //! Runs over tables with channels, and printed texts.
 
-use super::tests::{Case, checks_of, runs};
-use super::*;
+use crate::runs::{Case, checks_of, runs};
 use byte_ends::MemShelf;
+use m3_tool::Status;
 use std::test::Fail;
 
 /// Sums of words of 32 bits, which a channel takes from the rows and gives to boundaries.

@@ -1,8 +1,8 @@
 //! Runs over files in memory, each with its status and all that it puts.
 
-use super::*;
 use byte_ends::{MemShelf, MemSink};
-use std::alloc::AllocError;
+use m3_tool::{HELP, Status, run};
+use std::alloc::{AllocError, Global};
 use std::process::Abort;
 use std::test::Fail;
 

@@ -1,8 +1,8 @@
 //! Runs that print the products of channels at two numbers.
 
-use super::tests::runs;
-use super::*;
+use crate::runs::runs;
 use byte_ends::MemShelf;
+use m3_tool::Status;
 use std::test::Fail;
 
 struct Case {
