@@ -3,6 +3,7 @@ pub mod FillSteps
 pub mod FilledColumns
 pub mod FormFits
 pub mod Kept
+pub mod Packs
 pub mod Padding
 pub mod Pieces
 pub mod Words

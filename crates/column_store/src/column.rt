@@ -1,7 +1,8 @@
 //! The values of one column, in words.
 
-ghost use Rattle.std.specs.Prelude.{◌≡◌, ℕ, ◌^◌, ◌*◌, ◌/◌, ◌%◌, ◌<◌, ◌≤◌, length, slice_index, slice_set, IfOk};
-ghost use Rattle.cube_laws.specs.Sums.{tabulate};
+ghost use Rattle.std.specs.Prelude.{◌≡◌, ℕ, ◌+◌, ◌^◌, ◌*◌, ◌/◌, ◌%◌, ◌<◌, ◌≤◌, length, slice_index, slice_set, IfOk};
+ghost use Rattle.tower_laws.specs.Tower.{mul};
+ghost use Rattle.cube_laws.specs.Sums.{sum_to, tabulate};
 ghost use Rattle.packed_words.specs.Packing.{per_word};
 ghost use Rattle.tower_laws.specs.Digits.{digits};
 ghost use Rattle.column_store.specs.Digits.{number_of_bytes};
@@ -70,6 +71,16 @@ impl Column {
         } else {
             0
         }
+    }
+
+    /// The values of a block of `2 ^ log` as one number, the first in the lowest bits.
+    #[inline]
+    pub(crate) fn wide(&self, log: u32, block: usize) -> u128
+        requires fits { self.now.level + log ≤ 7 }
+        requires within { (block + 1) * 2 ^ log ≤ length self.now.values }
+        ensures { result ≡ sum_to (2 ^ log) (λ u. mul (2 ^ (u * 2 ^ self.now.level)) (slice_index self.now.values (block * 2 ^ log + u))) }
+    {
+        lane_of(self.words.as_slice(), self.level + log, block)
     }
 
     /// Puts a value at a position.

@@ -97,6 +97,19 @@ fn pack_value(source: &Column, level: u32, log: u32, position: usize) -> u128
     requires small { position < 2 ^ 32 }
     ensures { result ≡ sum_to (2 ^ log) (λ u. mul (2 ^ (u * 2 ^ level)) (slice_index source.now.values (position * 2 ^ log + u))) }
 {
+    if source.level() == level && position < source.len() >> log {
+        source.wide(log, position)
+    } else {
+        pack_by_values(source, level, log, position)
+    }
+}
+
+/// The same, value by value, of which some may lie past the last.
+fn pack_by_values(source: &Column, level: u32, log: u32, position: usize) -> u128
+    requires fits { level + log ≤ 7 }
+    requires small { position < 2 ^ 32 }
+    ensures { result ≡ sum_to (2 ^ log) (λ u. mul (2 ^ (u * 2 ^ level)) (slice_index source.now.values (position * 2 ^ log + u))) }
+{
     let mut sum = B128::ZERO;
     for u in 0..1usize << log {
         let basis = element(1 << (u << level));
