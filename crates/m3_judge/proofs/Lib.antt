@@ -5,4 +5,5 @@ pub mod Least
 pub mod Products
 pub mod Searching
 pub mod Sourced
+pub mod Expanding
 pub mod Judged

@@ -1,5 +1,5 @@
 -- Steps of the search for the first value that isn't 0.
-use Rattle.std.proofs.Common.{◌≡◌, ℕ, ◌<◌, ◌+◌, ◌^◌, List, [], length, Some, sym, ◌∙◌, subst, arith, below_more}
+use Rattle.std.proofs.Common.{◌≡◌, ℕ, ◌<◌, ◌≤◌, ◌+◌, ◌^◌, ◌⊎◌, inl, inr, List, [], length, Some, sym, ◌∙◌, subst, arith, below_more}
 use Rattle.std.specs.List.{slice_get, slice_index}
 use Rattle.std.specs.Prelude.{slice_index_or}
 use Rattle.std.proofs.lemmas.Option.{slice_get_within}
@@ -7,6 +7,8 @@ use Rattle.table_shape.specs.declared.shape.ConstraintShape.{ConstraintShape}
 use Rattle.table_shape.specs.declared.shape.TableShape.{TableShape}
 use Rattle.table_shape.specs.Filling.{Filling}
 use Rattle.table_shape.specs.Satisfies.{IsZeroOnRows, AreZero, TablesAreZero, IsFirstNonZero}
+use Rattle.std.proofs.lemmas.Bool.{cases_lt}
+use Rattle.m3_judge.specs.Blocks.{IsZeroBetween}
 use Rattle.m3_judge.specs.Judging.{seen, value_of, IsZeroOn, IsZeroAtIndices, IsFirstInRow, IsFirstFound, IsFirstInTable}
 use Rattle.m3_judge.specs.declared.constraints.Found.{Found}
 use Rattle.m3_judge.specs.declared.constraints.NonZero.{NonZero as OwnNonZero}
@@ -15,6 +17,26 @@ pub IsZeroOn-more : (lists : List (List ℕ)) (constraint : ConstraintShape) (n 
 IsZeroOn-more lists constraint n before here row index below =
     let P : ℕ → Type 0 = λ row. index < 2 ^ constraint.log_values → value_of lists constraint row index ≡ 0 in
     below_more P n (λ row h at. before row index h at) (here index) row below
+
+-- what is 0 before a row, and on n rows from there on, is 0 before each later row of these
+pub IsZeroOn-between : (lists : List (List ℕ)) (constraint : ConstraintShape) (row n next : ℕ)
+    → IsZeroOn lists constraint row → IsZeroBetween lists constraint row n → next ≤ row + n → IsZeroOn lists constraint next
+IsZeroOn-between lists constraint row n next before here within r index below at = go (cases_lt r row)
+  where
+    go : (r < row) ⊎ (row ≤ r) → value_of lists constraint r index ≡ 0
+    go (inl earlier) = before r index earlier at
+    go (inr later) = here r index later (omega arith) at
+
+-- the first value before a row is the first before a later one
+pub found_earlier : (lists : List (List ℕ)) (constraint : ConstraintShape) (next rows : ℕ) (found : Found) → next ≤ rows → IsFirstFound lists constraint next found → IsFirstFound lists constraint rows found
+found_earlier lists constraint next rows found within first = record {
+  row = let row = first.row in omega arith;
+  index = first.index;
+  value = first.value;
+  not_zero = first.not_zero;
+  rows_before = first.rows_before;
+  indices_before = first.indices_before;
+}
 
 pub found_in_row : (lists : List (List ℕ)) (constraint : ConstraintShape) (n rows : ℕ) (found : Found)
     → n < rows → IsZeroOn lists constraint n → IsFirstInRow lists constraint n found → IsFirstFound lists constraint rows found

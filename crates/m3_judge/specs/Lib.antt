@@ -1,3 +1,4 @@
 pub mod Order
 pub mod Sources
 pub mod Judging
+pub mod Blocks

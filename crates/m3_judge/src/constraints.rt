@@ -7,8 +7,10 @@ ghost use Rattle.table_shape.specs.Value.{value};
 ghost use Rattle.tower_laws.specs.Lists.{product_all, sum_all};
 ghost use Rattle.table_shape.specs.Fits.{TableFits};
 ghost use Rattle.column_store.specs.Column.{list_of, lists};
-ghost use Rattle.m3_judge.specs.Judging.{values_in, IsZeroAtIndices, IsFirstInRow, FindsFirst, FindsFirstInTable, FindsFirstNonZero};
+ghost use Rattle.m3_judge.specs.Blocks.{BlockFits};
+ghost use Rattle.m3_judge.specs.Judging.{values_in, IsZeroAtIndices, IsZeroOn, IsFirstInRow, FindsFirst, FindsFirstInTable, FindsFirstNonZero};
 
+use crate::blocks::{ROWS, are_zero_rows};
 use column_store::{Column, Store};
 use table_shape::{ColumnShape, ConstraintShape, ShapeExpr, TableShape, ceil_log};
 use tower_field::{B128, Tower, by_level, lift};
@@ -155,20 +157,48 @@ fn first_in_row<F: Tower>(
     None
 }
 
+/// The first value of a constraint that isn't 0 in the rows before `to`, which is 0 in those before
+/// `from`.
+fn first_between<F: Tower>(
+    columns: &[Column],
+    constraint: &ConstraintShape,
+    from: u32,
+    to: u32,
+) -> Option<Found>
+    requires order { from ≤ to }
+    requires rows { to ≤ max_rows }
+    requires log_values { constraint.now.log_values ≤ max_log_values }
+    requires before { IsZeroOn (lists columns.now) constraint.now from }
+    ensures { FindsFirst (lists columns.now) constraint.now to result }
+{
+    for row in from..to {
+        if let Some(found) = first_in_row::<F>(columns, constraint, row) {
+            return Some(found);
+        }
+    }
+    None
+}
+
 /// The first value of a constraint in the first rows that isn't 0, computed in the field of F.
 fn first_in_rows<F: Tower>(
     columns: &[Column],
     constraint: &ConstraintShape,
     rows: u32,
 ) -> Option<Found>
+    requires block_fits { BlockFits F.row }
     requires rows { rows ≤ max_rows }
     requires log_values { constraint.now.log_values ≤ max_log_values }
     ensures { FindsFirst (lists columns.now) constraint.now rows result }
 {
-    for row in 0..rows {
-        if let Some(found) = first_in_row::<F>(columns, constraint, row) {
-            return Some(found);
+    let mut row = 0;
+    while row < rows {
+        let next = rows.min(row + ROWS);
+        if !are_zero_rows::<F>(columns, constraint, row) {
+            if let Some(found) = first_between::<F>(columns, constraint, row, next) {
+                return Some(found);
+            }
         }
+        row = next;
     }
     None
 }

@@ -1,6 +1,7 @@
 //! Whether values satisfy tables: every constraint is 0, and every channel is in balance.
 #![tactic(auto)]
 
+mod blocks;
 mod constraints;
 mod laws;
 mod no_memory;
