@@ -6,4 +6,6 @@ pub mod Kept
 pub mod Packs
 pub mod Padding
 pub mod Pieces
+pub mod Summing
+pub mod WordSums
 pub mod Words

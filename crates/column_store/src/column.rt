@@ -1,6 +1,6 @@
 //! The values of one column, in words.
 
-ghost use Rattle.std.specs.Prelude.{◌≡◌, ℕ, ◌+◌, ◌^◌, ◌*◌, ◌/◌, ◌%◌, ◌<◌, ◌≤◌, length, slice_index, slice_set, IfOk};
+ghost use Rattle.std.specs.Prelude.{◌≡◌, ℕ, ◌+◌, ◌^◌, ◌*◌, ◌/◌, ◌%◌, ◌<◌, ◌≤◌, bit_xor, length, slice_index, slice_set, IfOk};
 ghost use Rattle.tower_laws.specs.Tower.{mul};
 ghost use Rattle.cube_laws.specs.Sums.{sum_to, tabulate};
 ghost use Rattle.packed_words.specs.Packing.{per_word};
@@ -93,6 +93,22 @@ impl Column {
         set_lane(self.words.as_mut_slice(), self.level, position, number);
     }
 
+    /// Makes each value 0.
+    pub(crate) fn clear(&mut self)
+        ensures { self.new ≡ record self.old { values = tabulate (length self.old.values) (λ _. 0) } }
+    {
+        clear_words(self.words.as_mut_slice());
+    }
+
+    /// Adds the value of another column of the same level to each value.
+    pub(crate) fn add(&mut self, other: &Column)
+        requires same_level { other.now.level ≡ self.old.level }
+        requires as_many { length self.old.values ≤ length other.now.values }
+        ensures { self.new ≡ record self.old { values = tabulate (length self.old.values) (λ p. bit_xor (slice_index self.old.values p) (slice_index other.now.values p)) } }
+    {
+        add_words(self.words.as_mut_slice(), other.words.as_slice());
+    }
+
     /// Takes the values that bytes spell, the lowest bits first.
     pub(crate) fn put_bytes(&mut self, bytes: &[u8])
         ensures { self.new ≡ record self.old { values = digits (2 ^ (2 ^ self.old.level)) (length self.old.values) (number_of_bytes bytes.now) } }
@@ -108,6 +124,23 @@ fn words_for(level: u32, count: usize) -> usize
     ensures enough { count ≤ result * per_word level }
 {
     ((count << level) + 127) / 128
+}
+
+fn clear_words(words: &mut [u128])
+    ensures { (k : ℕ) → k < length words.old → slice_index words.new k ≡ 0 }
+{
+    for word in words.iter_mut() {
+        *word = 0;
+    }
+}
+
+/// Adds words to others, as far as there are both.
+fn add_words(words: &mut [u128], others: &[u128])
+    ensures { (k : ℕ) → k < length words.old → slice_index words.new k ≡ bit_xor (slice_index words.old k) (slice_index others.now k) }
+{
+    for k in 0..words.len().min(others.len()) {
+        words[k] ^= others[k];
+    }
 }
 
 /// Puts the number that bytes spell into words, as much of it as they hold.

@@ -14,9 +14,11 @@ ghost use Rattle.column_store.specs.Filled.{filled};
 
 use crate::column::Column;
 use crate::forms::form_value;
+use crate::sums::{are_summands, fill_sum};
 use std::alloc::{AllocError, Global};
 use std::marker::Model;
 use table_shape::{ColumnKind, ColumnShape, ShapeForm, ceil_log};
+use tower_field::{B128, Tower};
 
 /// The values of a table's columns. Contracts see the list of them.
 #[derive(Debug, Drop)]
@@ -125,6 +127,13 @@ fn fill_column(
     requires fits { (p : ℕ) → form_value shapes.now (list_of (lists before.now)) form.now p < 2 ^ (2 ^ column.old.level) }
     ensures { column.new ≡ record column.old { values = tabulate count (form_value shapes.now (list_of (lists before.now)) form.now) } }
 {
+    if let ShapeForm::Linear { constant, terms } = form {
+        let terms = terms.as_slice();
+        if *constant == B128::ZERO && are_summands(before, terms, column.level(), count) {
+            fill_sum(before, terms, column);
+            return;
+        }
+    }
     for position in 0..count {
         column.set(position, form_value(shapes, before, form, position));
     }

@@ -7,6 +7,7 @@ mod columns;
 mod draft;
 mod forms;
 mod store;
+mod sums;
 
 pub use bits::{spells_bits, written_bits};
 pub use column::Column;
