@@ -10,6 +10,3 @@ mod tops;
 
 pub use basis::Basis;
 pub use no_memory::NoMemory;
-
-#[cfg(test)]
-mod tests;

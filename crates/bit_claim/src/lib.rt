@@ -3,8 +3,6 @@
 
 mod laws;
 mod placement;
-#[cfg(test)]
-mod tests;
 
 pub use laws::blocks_stand_apart;
 pub use placement::{Block, Placement, place};

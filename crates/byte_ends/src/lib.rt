@@ -13,8 +13,6 @@ mod putting;
 mod reading;
 mod shelf;
 mod sink;
-#[cfg(test)]
-mod tests;
 
 pub use failed::Failed;
 pub use mem_shelf::MemShelf;

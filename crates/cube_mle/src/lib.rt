@@ -17,6 +17,3 @@ pub use no_memory::NoMemory;
 pub use shift::{ShiftKind, shift_at};
 pub use step::step_down_at;
 pub use weights::eq_table;
-
-#[cfg(test)]
-mod tests;

@@ -18,6 +18,3 @@ pub use query::{QueryCheck, QueryFault, honest_openings};
 pub fn folds_of_words()
     ensures { AreFolds }
 {}
-
-#[cfg(test)]
-mod tests;

@@ -12,6 +12,3 @@ pub use clash::{Clash, find_clash};
 pub use no_memory::NoMemory;
 pub use path::{check_path, own_paths, root_of};
 pub use tree::Tree;
-
-#[cfg(test)]
-mod tests;

@@ -1,6 +1,13 @@
-//! Tests of the language by the public calls of table_shape. They stand in a crate of their own since
-//! those of a crate prove the whole crate once more.
+//! Tests of the language and of what stands on it by public calls: texts, shapes, placements.
 #![tactic(auto)]
 
 #[cfg(test)]
+mod built;
+#[cfg(test)]
+mod placements;
+#[cfg(test)]
+mod printed;
+#[cfg(test)]
 mod shapes;
+#[cfg(test)]
+mod texts;

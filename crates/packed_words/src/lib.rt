@@ -22,6 +22,3 @@ pub use no_memory::NoMemory;
 pub use product::mul128;
 pub use transpose::transpose128;
 pub use words::{lane_of, set_lane};
-
-#[cfg(test)]
-mod tests;

@@ -18,6 +18,3 @@ pub use form::{Form, Forms};
 pub use interpolation::at;
 pub use no_memory::NoMemory;
 pub use root_count::roots_bound;
-
-#[cfg(test)]
-mod tests;

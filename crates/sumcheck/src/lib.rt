@@ -36,6 +36,3 @@ pub use sum_terms::{SumTerms, sum_due, sum_message, sum_pending};
 pub use sum_walk::{RoundSum, SumWalk};
 pub use summand::{Pair, Summand};
 pub use tables128::Tables128;
-
-#[cfg(test)]
-mod tests;

@@ -423,6 +423,3 @@ pub fn print_tables(alloc: Global, tables: &Tables) -> Result<Vec<u8>, NoMemory>
     printer.decls(tables.decls())?;
     Ok(printer.text)
 }
-
-#[cfg(test)]
-mod tests;

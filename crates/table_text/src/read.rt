@@ -65,6 +65,3 @@ pub fn read_tables(alloc: Global, text: &[u8]) -> Result<Tables, TextStop>
     let decls = read(alloc, text)?;
     Ok(Tables::new(decls))
 }
-
-#[cfg(test)]
-mod tests;

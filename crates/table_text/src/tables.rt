@@ -63,6 +63,3 @@ impl Tables {
         self.decls.as_slice()
     }
 }
-
-#[cfg(test)]
-mod tests;

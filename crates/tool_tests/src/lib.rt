@@ -1,9 +1,10 @@
-//! Runs of the whole program over files in memory. They stand in a crate of their own since the tests
-//! of a crate prove the whole crate once more.
+//! Tests of the ends of the program, and runs of the whole over files in memory.
 #![tactic(auto)]
 
 #[cfg(test)]
 mod channels;
+#[cfg(test)]
+mod ends;
 #[cfg(test)]
 mod lowering;
 #[cfg(test)]

@@ -31,6 +31,3 @@ pub use level5::B32;
 pub use level6::B64;
 pub use level7::B128;
 pub use values::{NoMemory, Values, numbers_fit};
-
-#[cfg(test)]
-mod tests;

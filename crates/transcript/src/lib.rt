@@ -82,6 +82,3 @@ impl Transcript {
 pub fn challenges()
     ensures { FollowsEvents }
 {}
-
-#[cfg(test)]
-mod tests;

@@ -16,6 +16,3 @@ pub use meeting::{meet, step};
 pub use move_prover::MoveProver;
 pub use move_walk::{MoveWalk, move_again};
 pub use moved::Moved;
-
-#[cfg(test)]
-mod tests;

@@ -1,0 +1,5 @@
+use Rattle.std.proofs.Common.{arith, refl}
+use Rattle.field_tests.proofs.sums.true_rounds.Goals as goal
+
+pub prove-requires : goal.prove-requires
+prove-requires g c = (2, omega arith, refl)

@@ -1,5 +1,0 @@
-use Rattle.std.proofs.Common.{◌≡◌, length}
-use Rattle.fri_fold.proofs.tests.eight_folds.Given as goal
-
-abbrev pub invariant-folds : goal.invariant-folds
-invariant-folds g l = (l.prover.log ≡ 8) × (length l.prover.draws ≡ l.j)

@@ -1,5 +1,0 @@
-use Rattle.std.proofs.Common.{◌≡◌, length}
-use Rattle.fri_fold.proofs.tests.table.Given as goal
-
-abbrev pub invariant-values : goal.invariant-values
-invariant-values l = length l.values.items ≡ l.i

@@ -1,4 +1,0 @@
-use Rattle.sumcheck.proofs.tests.prove.Given as goal
-
-abbrev pub decreases-loop-prover : goal.decreases-loop-prover
-decreases-loop-prover l = l.prover.left
