@@ -3,7 +3,7 @@ use Rattle.std.proofs.Common.{◌≡◌, ℕ, zero, suc, ◌+◌, ◌*◌, ◌/�
 use Rattle.std.proofs.lemmas.List.{take_more}
 use Rattle.tower_laws.specs.Tower.{mul}
 use Rattle.shift_laws.specs.Shifts.{step_down}
-use Rattle.shift_laws.proofs.Steps.{step_none, step_all, step_low, step_high}
+use Rattle.shift_laws.proofs.Steps.{step_none, step_above, step_low, step_high}
 
 -- the step of the rows' low bits at the coordinates so far, and the rest of the rows
 pub record Stepped (rows : ℕ) (low : List ℕ) (rest step : ℕ) : Type 0 where
@@ -53,9 +53,9 @@ taken point i x e l = take_more point i x l ∙ ap (λ y. take i point ++ y ∷ 
 pub step_end : (rows step : ℕ) (point : List ℕ) → Stepped rows point 0 step → step ≡ step_down rows point
 step_end rows step point h = let e = h.rows_are in let r : h.below ≡ rows = omega arith in h.so_far ∙ ap (λ n. step_down n point) r
 
-pub step_whole : (rows rest step : ℕ) (point : List ℕ) → 0 < rest → rows ≤ 2 ^ length point → Stepped rows point rest step → 1 ≡ step_down rows point
-step_whole rows rest step point p l h = sym (ap (λ n. step_down n point) (whole rest (2 ^ length point) h.below p h.rows_are l) ∙ step_all point)
+pub step_whole : (rows rest step : ℕ) (point : List ℕ) → 0 < rest → Stepped rows point rest step → 1 ≡ step_down rows point
+step_whole rows rest step point p h = sym (step_above rows point (whole rest (2 ^ length point) h.below p h.rows_are))
   where
-    whole : (rest m below : ℕ) → 0 < rest → rows ≡ rest * m + below → rows ≤ m → rows ≡ m
-    whole zero m below p e l = absurd (omega arith)
-    whole (suc rest) m below p e l = let d : suc rest * m ≡ m + rest * m = grind arith in omega arith
+    whole : (rest m below : ℕ) → 0 < rest → rows ≡ rest * m + below → m ≤ rows
+    whole zero m below p e = absurd (omega arith)
+    whole (suc rest) m below p e = let d : suc rest * m ≡ m + rest * m = grind arith in omega arith

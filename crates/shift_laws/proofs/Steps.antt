@@ -20,8 +20,12 @@ step_none z = extension-same (2 ^ length z) (λ p. flag (ltb p 0)) (λ p. 0) z (
 below : (p n : ℕ) → p < n → flag (ltb p n) ≡ 1
 below p n h = ap flag (lt-ltb p n h)
 
+-- with at least as many rows as positions it is 1 throughout
+pub step_above : (n : ℕ) (z : List ℕ) → 2 ^ length z ≤ n → step_down n z ≡ 1
+step_above n z h = extension-same (2 ^ length z) (λ p. flag (ltb p n)) (λ p. 1) z (λ p l. below p n (omega arith)) ∙ extension-constant 1 z
+
 pub step_all : (z : List ℕ) → step_down (2 ^ length z) z ≡ 1
-step_all z = extension-same (2 ^ length z) (λ p. flag (ltb p (2 ^ length z))) (λ p. 1) z (λ p l. below p (2 ^ length z) l) ∙ extension-constant 1 z
+step_all z = step_above (2 ^ length z) z (omega arith)
 
 low_end : (x a : ℕ) → bit_xor (mul (bit_xor 1 x) a) (mul x 0) ≡ mul (bit_xor 1 x) a
 low_end x a = identity (x ∷ a ∷ []) (search field_terms depth 60 fits 20000) refl

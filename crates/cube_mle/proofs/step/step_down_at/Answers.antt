@@ -32,4 +32,4 @@ returns-then-rest-eq0-2 c =
 pub returns-else-rest-eq0-2 : goal.returns-else-rest-eq0-2
 returns-else-rest-eq0-2 c =
     let e = take_all c.loop-x.x-index c.args.point.now c.loop-x-test.false in
-    step_whole c.args.rows c.loop-x.rest c.loop-x.step c.args.point.now (let t = c.if-rest-eq0-2.false in omega arith) c.requires (subst (λ (low : List ℕ). Stepped c.args.rows low c.loop-x.rest c.loop-x.step) e c.loop-x.invariant)
+    step_whole c.args.rows c.loop-x.rest c.loop-x.step c.args.point.now (let t = c.if-rest-eq0-2.false in omega arith) (subst (λ (low : List ℕ). Stepped c.args.rows low c.loop-x.rest c.loop-x.step) e c.loop-x.invariant)
