@@ -4,3 +4,4 @@ pub mod Lawful
 pub mod Promise
 pub mod RowSteps
 pub mod Following
+pub mod Told

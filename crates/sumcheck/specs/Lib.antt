@@ -1,6 +1,8 @@
 pub mod Claim
 pub mod Machine
 pub mod Column
+pub mod Room
+pub mod Ending
 pub mod Rounds
 pub mod SumWalk
 pub mod Reduction
