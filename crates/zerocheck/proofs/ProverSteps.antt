@@ -20,13 +20,14 @@ use Rattle.sumcheck.proofs.Following.{draw_sets, goes_first, goes_passed, goes_r
 use Rattle.zerocheck.specs.declared.zero_prover.ZeroProver.{ZeroProver}
 use Rattle.zerocheck.specs.declared.zero_walk.Stage.{Stage}
 use Rattle.zerocheck.specs.declared.zero_walk.Stage.TheVariants.{Stated, Drawing}
-use Rattle.zerocheck.specs.Ending.{Ending, untold}
+use Rattle.sumcheck.specs.Ending.{Ending, untold}
+use Rattle.sumcheck.specs.Column.{column_claims}
+use Rattle.sumcheck.proofs.Told.{claims_told}
 use Rattle.zerocheck.specs.Given.{AreThere, IsThere, given_lists}
 use Rattle.zerocheck.specs.Group.{Group, forms}
 use Rattle.zerocheck.specs.Opening.{CanDraw, Opening, drawn}
-use Rattle.zerocheck.specs.Zero.{Zero, Zeroed, column_claims, columns_of, on_rows, row_steps, stated, summed, vector, waiting, zero_draw, zero_entries, zero_form, zero_sum, zeroed_sum, zeroing}
+use Rattle.zerocheck.specs.Zero.{Zero, Zeroed, columns_of, on_rows, row_steps, stated, summed, vector, waiting, zero_draw, zero_entries, zero_form, zero_sum, zeroed_sum, zeroing}
 use Rattle.zerocheck.specs.ZeroProver.{FollowsEnd, FollowsSum, GoesOn, Holds, IsDrawn, undrawn}
-use Rattle.zerocheck.proofs.ZeroLaws.{told}
 
 -- ---- the value of a row
 pub row_value : (t : Zeroed) (row rest : List ℕ) (a s b : ℕ) → length row ≡ length t.group.columns + 2 → rest ≡ drop 2 row → a ≡ get_or row 0 a → s ≡ get_or row 1 s
@@ -42,11 +43,6 @@ pub batch_same : (u t : Zeroed) (row : List ℕ) (b : ℕ) → u ≡ t → b ≡
 batch_same u t row b e h = h ∙ ap (λ (x : Zeroed). horner (map (λ form. value form row) (forms x.group)) x.beta) e
 
 -- ---- claims
-pub claims_count : (t : ℕ) (z cs v : List ℕ) → length v ≡ length cs → length (column_claims t z cs v) ≡ length cs
-claims_count t z [] v l = refl
-claims_count t z (c ∷ cs) [] l = absurd (omega arith)
-claims_count t z (c ∷ cs) (x ∷ v) l = ap suc (claims_count t z cs v (omega arith))
-
 -- ---- the lists that are given
 pub column_there : (tables : List ColumnTable) (t n i : ℕ) (cs : List ℕ) → AreThere tables t n cs → i < length cs → IsThere tables t n (get_or cs i 0)
 column_there tables t n i [] h l = absurd (omega arith)
@@ -75,7 +71,7 @@ claimed_is d n (round_claim e m z v) h = absurd (cc)
 from_none : (n : ℕ) → 0 + n ≡ n
 from_none n = omega arith
 
-start_goes : (F : Filling) (t : Zeroed) (e : Ending) (r : Rounds) → IsDrawn t r → AllLong (2 ^ t.group.vars) (columns_of F t.group) → e ≡ untold t.group [] → GoesOn (begun (opened t F)) e F t r
+start_goes : (F : Filling) (t : Zeroed) (e : Ending) (r : Rounds) → IsDrawn t r → AllLong (2 ^ t.group.vars) (columns_of F t.group) → e ≡ untold t.group.table t.group.columns t.group.vars [] → GoesOn (begun (opened t F)) e F t r
 start_goes F t e r h long end =
     let k = claimed_is (t.group.degree + 2) t.group.vars r h.first in
     subst (GoesOn (begun (opened t F)) e F t) (sym k)
@@ -130,7 +126,7 @@ opened_next p next o new s t lists c a b e h g =
       opening = ap Some (b ∙ ap (λ (x : Opening). record x { stage = Drawing; zeroed = drawn x.stage x.zeroed c }) k);
       none = h.none;
       long = subst (λ (x : Group). AllLong (2 ^ x.vars) lists) (sym g) h.long;
-      ending = h.ending ∙ ap (λ (x : Group). untold x []) (sym g);
+      ending = h.ending ∙ ap (λ (x : Group). untold x.table x.columns x.vars []) (sym g);
     })
 
 pub draw_opens : (p next : ZeroProver) (o new : Opening) (c : ℕ) → p.opening ≡ Some o → new ≡ record o { stage = Drawing; zeroed = drawn o.stage o.zeroed c } → next ≡ record p { opening = Some new }
@@ -208,6 +204,6 @@ final_gives p q e f old new finals values l a g o b F t (sum_claim d zero z c) h
       o ∙ ap (λ w. old ++ w) v,
       record {
         told = ap (λ (x : Ending). x.claims) b ∙ (λ i. column_claims (h.ending i).table (h.ending i).point (h.ending i).columns (v i));
-        hold = told F t.group.table z t.group.columns;
+        hold = claims_told F t.group.table z t.group.columns;
       },
     )

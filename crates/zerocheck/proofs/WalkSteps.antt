@@ -5,9 +5,11 @@ use Rattle.sumcheck.specs.Machine.{AwaitsDraw, AwaitsMessage}
 use Rattle.sumcheck.specs.Rounds.{Rounds, sum_claim, round_claim, DrawIsDue}
 use Rattle.sumcheck.specs.Summing.{adding, closed, summed_entries, summed_message}
 use Rattle.sumcheck.proofs.Lawful.{draw_due}
+use Rattle.sumcheck.proofs.Told.{claims_short}
+use Rattle.sumcheck.specs.Column.{column_claims}
 use Rattle.zerocheck.specs.declared.zero_walk.Stage.{Stage}
 use Rattle.zerocheck.specs.declared.zero_walk.Stage.TheVariants.{Waiting, Stated, Drawing, Adding, Done}
-use Rattle.zerocheck.specs.Zero.{IsFresh, StageFits, Zero, Zeroed, column_claims, stage_at, stated, vector, zero_draw, zero_entries, zero_of, zero_sum, zeroing}
+use Rattle.zerocheck.specs.Zero.{IsFresh, StageFits, Zero, Zeroed, stage_at, stated, vector, zero_draw, zero_entries, zero_of, zero_sum, zeroing}
 
 less_one : (n : ℕ) → suc n - 1 ≡ n
 less_one n = omega arith
@@ -80,11 +82,6 @@ pub last_count : (t : Zeroed) (r : Rounds) (v : List ℕ) (claims : List ColumnC
 last_count t (sum_claim d zero z c) v claims h e = h
 last_count t (sum_claim d (suc n) z c) v claims h e = absurd (cc)
 last_count t (round_claim d n z w) v claims h e = absurd (cc)
-
-claims_short : (t : ℕ) (z cs v : List ℕ) → length (column_claims t z cs v) ≤ length cs
-claims_short t z [] v = omega arith
-claims_short t z (c ∷ cs) [] = omega arith
-claims_short t z (c ∷ cs) (x ∷ v) = let h = claims_short t z cs v in omega arith
 
 pub told_few : (g : Stage) (t : Zeroed) (n : ℕ) (r : Rounds) (claims new : List ColumnClaim) (table : ℕ) (z cs v : List ℕ) → StageFits g t n r claims → g ≡ Adding → new ≡ claims ++ column_claims table z cs v → length cs < 2 ^ 32 → length new < 2 ^ 32
 told_few g t n r claims new table z cs v f e h l =

@@ -34,8 +34,9 @@ use Rattle.sumcheck.specs.Machine.{Filling, Lawful, AtMessage, AtDraw, RoundIsCl
 use Rattle.sumcheck.specs.Summing.{LawfulSumming, KeepsTruth, adding, closed}
 use Rattle.sumcheck.proofs.Entries.{same_draw}
 use Rattle.sumcheck.proofs.Lawful.{keeps_truth}
+use Rattle.sumcheck.proofs.Told.{claims_fit, claims_tell, claims_told}
 use Rattle.zerocheck.specs.Group.{Group, forms}
-use Rattle.zerocheck.specs.Zero.{GroupFits, VectorsAreCounted, Zero, ZeroFits, ZeroHolds, Zeroed, after_draws, column_claims, columns_of, coordinate_entries, lists, on_rows, row_steps, stated, summed, values_on_rows, vector, waiting, zero_entries, zero_list, zero_round, zero_sum, zerocheck, zeroed_sum, zeroing}
+use Rattle.zerocheck.specs.Zero.{GroupFits, VectorsAreCounted, Zero, ZeroFits, ZeroHolds, Zeroed, after_draws, columns_of, coordinate_entries, lists, on_rows, row_steps, stated, summed, values_on_rows, vector, waiting, zero_entries, zero_list, zero_round, zero_sum, zerocheck, zeroed_sum, zeroing}
 
 -- ---- S times a batch
 scaled_step : (s p a q : ℕ) → mul s (bit_xor p (mul a q)) ≡ bit_xor (mul s p) (mul a (mul s q))
@@ -192,28 +193,13 @@ sum_final F t z f =
     ((λ i. mul (steps_at F g z f.0 f.1.1.within i) (value-moved (batch_form t.beta (forms g)) (extension (row_steps g) z) ends i))
     ∙ ap (mul (step_down g.rows (drop g.log_values z))) (batch_form_value t.beta (forms g) ends))
 
-pub told : (F : Filling) (t : ℕ) (z cs : List ℕ) → AllByRecursion (ColumnHolds F) (column_claims t z cs (map (λ list. extension list z) (map (F t) cs)))
-told F t z [] = tt
-told F t z (c ∷ cs) = (refl, told F t z cs)
-
-tells : (F : Filling) (t : ℕ) (z cs v : List ℕ) → length v ≡ length cs → AllByRecursion (ColumnHolds F) (column_claims t z cs v) → v ≡ map (λ list. extension list z) (map (F t) cs)
-tells F t z [] [] l h = refl
-tells F t z [] (x ∷ v) l h = absurd (omega arith)
-tells F t z (c ∷ cs) [] l h = absurd (omega arith)
-tells F t z (c ∷ cs) (x ∷ v) l h = let r = tells F t z cs v (omega arith) h.1 in (λ i. sym h.0 i ∷ r i)
-
-claims_fit : (F : Filling) (t n : ℕ) (z cs v : List ℕ) → length v ≡ length cs → n ≡ length z → AllLong (2 ^ n) (map (F t) cs) → AllByRecursion (ColumnFits F) (column_claims t z cs v)
-claims_fit F t n z [] v l e h = tt
-claims_fit F t n z (c ∷ cs) [] l e h = absurd (omega arith)
-claims_fit F t n z (c ∷ cs) (x ∷ v) l e h = (h.0 ∙ ap (λ k. 2 ^ k) e, claims_fit F t n z cs v (omega arith) e h.1)
-
 pub sum_lawful : LawfulSumming zero_sum
 sum_lawful = record {
   last = refl;
   final = sum_final;
   size = λ F t z. length-map (columns_of F t.group) (λ list. extension list z) ∙ length-map t.group.columns (F t.group.table);
-  told = λ F t z f. told F t.group.table z t.group.columns;
-  tells = λ F t z v f l h. tells F t.group.table z t.group.columns v l h;
+  told = λ F t z f. claims_told F t.group.table z t.group.columns;
+  tells = λ F t z v f l h. claims_tell F t.group.table z t.group.columns v l h;
   closed_fits = λ F t z v f l. claims_fit F t.group.table t.group.vars z t.group.columns v l f.0 f.1.1.long;
   next = λ t z v l. refl;
 }

@@ -18,7 +18,7 @@ use Rattle.sumcheck.specs.declared.entry.Entry.{Entry}
 use Rattle.sumcheck.specs.declared.entry.Entry.TheVariants.{Message, Draw}
 use Rattle.sumcheck.specs.declared.refused.Refused.{Refused}
 use Rattle.sumcheck.specs.Claim.{Claim, column_value, group, zero_terms, zero_vector}
-use Rattle.sumcheck.specs.Column.{ColumnFits, ColumnHolds}
+use Rattle.sumcheck.specs.Column.{ColumnFits, ColumnHolds, column_claims}
 use Rattle.sumcheck.specs.Machine.{Filling, Machine}
 use Rattle.sumcheck.specs.Rounds.{Rounds, sum_claim, rounds}
 use Rattle.sumcheck.specs.Summing.{Summing, Summed, adding, closed, summed_entries, summed_refusal, summed_message, summed_draw, summed_pending, summed_round, SummedFits, SummedHolds, summed_honest}
@@ -73,12 +73,6 @@ zeroed_sum F t = eq_sum t.point (on_rows (batch_form t.beta (forms t.group))) (l
 -- its form
 abbrev pub zero_form : Zeroed → Form
 zero_form t = times (variable 0) (moved (on_rows (batch_form t.beta (forms t.group))))
-
--- a claim on each column, at one point
-abbrev pub column_claims : ℕ → List ℕ → List ℕ → List ℕ → List ColumnClaim
-column_claims table z [] vs = []
-column_claims table z (c ∷ cs) [] = []
-column_claims table z (c ∷ cs) (v ∷ vs) = record { table = table; column = c; point = z; value = v } ∷ column_claims table z cs vs
 
 abbrev pub zero_sum : Summing Zeroed (List ColumnClaim)
 zero_sum = record {

@@ -12,7 +12,7 @@ use Rattle.sumcheck.specs.Summing.{Summed, adding, closed}
 use Rattle.zerocheck.specs.declared.zero_prover.ZeroProver.{ZeroProver}
 use Rattle.zerocheck.specs.declared.zero_walk.Stage.{Stage}
 use Rattle.zerocheck.specs.declared.zero_walk.Stage.TheVariants.{Waiting, Stated, Drawing}
-use Rattle.zerocheck.specs.Ending.{Ending, untold}
+use Rattle.sumcheck.specs.Ending.{Ending, untold}
 use Rattle.zerocheck.specs.Group.{Group}
 use Rattle.zerocheck.specs.Zero.{Zero, Zeroed, columns_of, stated, summed, vector, waiting, zero_form, zeroed_sum}
 
@@ -26,7 +26,7 @@ pub record Holds (p : ZeroProver) (stage : Stage) (t : Zeroed) (lists : List (Li
   pub opening : p.opening ≡ Some (record { stage = stage; zeroed = t; lists = lists })
   pub none : p.sum ≡ None
   pub long : AllLong (2 ^ t.group.vars) lists
-  pub ending : p.ending ≡ untold t.group []
+  pub ending : p.ending ≡ untold t.group.table t.group.columns t.group.vars []
 
 -- a prover for a group, before the claim is stated
 abbrev pub IsNew : ZeroProver → Group → List (List ℕ) → Type 0
@@ -36,7 +36,7 @@ IsNew p g lists = Holds p Waiting (undrawn g) lists
 -- the prover of the sum goes along with its rounds, and their draws are kept
 pub record GoesOn (q : Proving Zeroed) (e : Ending) (F : Filling) (t : Zeroed) (r : Rounds) : Type 0 where
   pub goes : Goes zero_form q (zeroed_sum F t) r
-  pub ending : e ≡ untold t.group (bound r)
+  pub ending : e ≡ untold t.group.table t.group.columns t.group.vars (bound r)
   pub vars : variables r ≡ t.group.vars
 
 -- the prover has exactly these claims, and they are true

@@ -12,16 +12,15 @@ ghost use Rattle.table_shape.specs.Limits.{max_columns, max_rows};
 ghost use Rattle.table_shape.specs.Value.{greatest};
 ghost use Rattle.table_shape.specs.declared.shape.ConstraintShape.{ConstraintShape as Constraint};
 ghost use Rattle.zerocheck.specs.Group.{form_on, forms, group_of, named, names};
-ghost use Rattle.zerocheck.specs.Zero.{column_claims};
+ghost use Rattle.sumcheck.specs.Column.{column_claims};
 
 use crate::expressions::{form_on, names};
 use crate::no_memory::NoMemory;
-use crate::points::Points;
 use poly_forms::Form;
 use sqlite_items::at;
 use std::alloc::Global;
 use std::marker::Model;
-use sumcheck::ColumnClaim;
+use sumcheck::{ColumnClaim, Points, push_claims};
 use table_shape::{ConstraintShape, Shape, TableShape, ceil_log};
 use tower_field::{B128, Tower};
 
@@ -169,35 +168,6 @@ fn table_at(shape: &Shape, table: u32) -> &TableShape
     &shape.tables()[table as usize]
 }
 
-/// Appends a claim on each column of a table, at one point.
-pub fn tell(
-    table: u32,
-    columns: &[u32],
-    point: &[B128],
-    values: &[B128],
-    points: &mut Points,
-    claims: &mut Vec<ColumnClaim>,
-)
-    requires equal { length values.now ≡ length columns.now }
-    requires many { length columns.now ≤ points.old.count }
-    requires short { length point.now ≤ points.old.vars }
-    requires space { length claims.old.items + length columns.now ≤ vec_capacity claims.old }
-    ensures claims { claims.new.items ≡ claims.old.items ++ column_claims table point.now columns.now values.now }
-    ensures vars { points.new.vars ≡ points.old.vars }
-{
-    for i in 0..values.len() {
-        let claim = ColumnClaim {
-            table,
-            column: columns[i],
-            point: points.copy(point),
-            value: values[i],
-        };
-        if claims.push(claim).is_err() {
-            unreachable!();
-        }
-    }
-}
-
 impl Group {
     /// That of a table's constraints of that many values per row, on a number of rows.
     pub(crate) fn of(
@@ -250,7 +220,7 @@ impl Group {
         ensures vars { points.new.vars ≡ points.old.vars }
         ensures few { length self.now.columns < 2 ^ 32 }
     {
-        tell(
+        push_claims(
             self.table,
             self.columns.as_slice(),
             point,

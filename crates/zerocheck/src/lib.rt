@@ -3,14 +3,12 @@
 
 #![tactic(auto)]
 
-mod ending;
 mod expressions;
 mod given;
 mod group;
 mod laws;
 mod no_memory;
 mod opening;
-mod points;
 mod row_steps;
 mod zero_prover;
 mod zero_walk;
@@ -23,6 +21,3 @@ pub use no_memory::NoMemory;
 pub use zero_prover::ZeroProver;
 pub use zero_walk::ZeroWalk;
 pub use zeroed::Zeroed;
-
-#[cfg(test)]
-mod tests;

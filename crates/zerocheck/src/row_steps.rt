@@ -22,29 +22,12 @@ fn high(point: &[B128], low: u32) -> &[B128]
     }
 }
 
-/// 2 ^ n.
-fn power(n: usize) -> u32
-    requires { n < 32 }
-    ensures { result ≡ 2 ^ n }
-{
-    1u32 << n
-}
-
-/// The extension at a point of the table that is 1 at the first positions, `rows` of them.
-fn step_below(rows: u32, point: &[B128]) -> B128
-    ensures { result ≡ step_down rows point.now }
-{
-    if point.len() < 32 && rows > power(point.len()) {
-        return B128::ONE;
-    }
-    step_down_at(rows, point)
-}
-
-/// The same of rows of `2 ^ log_values` positions each, at a point of all variables.
+/// The extension of the table that is 1 at the positions of rows, of `2 ^ log_values` positions each,
+/// at a point of all variables.
 pub fn row_steps_at(rows: u32, log_values: u32, point: &[B128]) -> B128
     ensures { result ≡ step_down rows (drop log_values point.now) }
 {
-    step_below(rows, high(point, log_values))
+    step_down_at(rows, high(point, log_values))
 }
 
 /// How many positions that many rows have.

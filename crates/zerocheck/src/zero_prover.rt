@@ -12,14 +12,13 @@ ghost use Rattle.zerocheck.specs.Group.{Group as Constraints, group_of};
 ghost use Rattle.zerocheck.specs.Zero.{columns_of, stated, summed, zero_entries, zero_sum, Zero, Zeroed as Sum};
 ghost use Rattle.zerocheck.specs.ZeroProver.{FollowsEnd, FollowsZero, GoesOn, IsNew};
 
-use crate::ending::Ending;
 use crate::group::Group;
 use crate::no_memory::NoMemory;
 use crate::opening::Opening;
 use crate::zero_walk::ZeroWalk;
 use crate::zeroed::Zeroed;
 use std::alloc::Global;
-use sumcheck::{ColumnClaim, ColumnTables, Honest, SumProver};
+use sumcheck::{ColumnClaim, ColumnTables, Ending, Honest, SumProver};
 use table_shape::Shape;
 use tower_field::{B128, Values};
 
@@ -109,7 +108,7 @@ impl ZeroProver {
             tables,
             group.vars,
         )?;
-        let ending = Ending::begin(alloc, &group)?;
+        let ending = Ending::begin(alloc, group.table, group.columns.as_slice(), group.vars)?;
         Ok(ZeroProver {
             alloc,
             opening: Some(Opening::begin(alloc, group, lists)?),

@@ -9,13 +9,13 @@ ghost use Rattle.zerocheck.specs.Zero.{zerocheck, waiting, summed, stage_at, sta
 
 use crate::group::Group;
 use crate::no_memory::NoMemory;
-use crate::points::Points;
 use crate::zeroed::Zeroed;
 use poly_forms::DrawKind;
 use std::alloc::Global;
 use std::marker::Model;
 use sumcheck::{
-    ColumnClaim, Entry, Pending, Refused, Steps, SumRounds, sum_due, sum_message, sum_pending,
+    ColumnClaim, Entry, Pending, Points, Refused, Steps, SumRounds, sum_due, sum_message,
+    sum_pending,
 };
 use table_shape::Shape;
 use tower_field::{B128, Tower};

@@ -2,14 +2,13 @@
 
 use crate::group::Group;
 use crate::no_memory::NoMemory;
-use crate::points::Points;
 use crate::row_steps::row_steps_at;
 use cube_mle::eq_at;
 use poly_forms::{CheckKind, DrawKind};
 use sqlite_items::Items;
 use std::alloc::Global;
 use std::marker::Model;
-use sumcheck::{ColumnClaim, SumOf, SumTerms, Summand};
+use sumcheck::{ColumnClaim, Points, SumOf, SumTerms, Summand};
 use tower_field::{B128, Tower};
 
 /// A group, the draw that joins its constraints, and the coordinates that were drawn.
@@ -37,7 +36,7 @@ impl Model for Zeroed {
 
 impl Zeroed {
     ghost use Rattle.std.specs.Prelude.{◌≡◌, ◌<◌, ◌≤◌, ◌+◌, ◌^◌, ◌++◌, ◌∷◌, [], length, vec_capacity, IfOk};
-    ghost use Rattle.zerocheck.specs.Zero.{column_claims};
+    ghost use Rattle.sumcheck.specs.Column.{column_claims};
 
     /// Before any draw.
     pub(crate) fn begin(alloc: Global, group: Group) -> Result<Zeroed, NoMemory>

@@ -1,4 +1,5 @@
-use Rattle.std.proofs.Common.{◌≡◌, ◌^◌, ◌∙◌, List, ℕ, Some, ap, refl}
+use Rattle.std.proofs.Common.{◌≡◌, ◌^◌, ◌∙◌, List, [], ℕ, Some, ap, refl}
+use Rattle.sumcheck.specs.Ending.{untold}
 use Rattle.zerocheck.specs.Given.{given_lists}
 use Rattle.zerocheck.specs.Group.{Group}
 use Rattle.zerocheck.specs.ZeroProver.{undrawn}
@@ -15,5 +16,5 @@ returns c =
       opening = ap Some (c.in_ok-begin.ensures ∙ ap (λ (ls : List (List ℕ)). record { stage = Waiting; zeroed = undrawn g; lists = ls }) lists);
       none = refl;
       long = given_long tables g.table (2 ^ g.vars) g.columns c.requires;
-      ending = c.in_ok-ending.ensures;
+      ending = c.in_ok-ending.ensures ∙ ap (λ (cs : List ℕ). untold c.group.inside.table cs c.group.inside.vars []) c.as_slice-2.ensures.value ∙ ap (λ (x : Group). untold x.table x.columns x.vars []) c.group.view_is;
     }

@@ -1,6 +1,0 @@
-use Rattle.std.proofs.Common.{◌≡◌, ◌≤◌, [], length, vec_capacity}
-use Rattle.std.specs.List.{All}
-use Rattle.zerocheck.proofs.points.Points.begin.Given as goal
-
-abbrev pub invariant-loop : goal.invariant-loop
-invariant-loop l = (length l.points.items ≡ l.counter) × All (λ v. (v.items ≡ []) × (l.vars ≤ vec_capacity v)) l.points.items
