@@ -11,3 +11,6 @@ pub mod FilledForms
 pub mod ShiftSteps
 pub mod LinearSteps
 pub mod PackSteps
+pub mod ListSteps
+pub mod Forms
+pub mod Starts

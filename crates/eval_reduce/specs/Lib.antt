@@ -10,3 +10,4 @@ pub mod Provers
 pub mod Shift
 pub mod Filled
 pub mod ShiftProver
+pub mod Lists

@@ -11,6 +11,7 @@ mod joined;
 mod laws;
 mod linear_prover;
 mod linear_step;
+mod lists;
 mod merge_prover;
 mod merge_walk;
 mod no_memory;
@@ -35,6 +36,7 @@ pub use laws::{
 };
 pub use linear_prover::LinearProver;
 pub use linear_step::LinearStep;
+pub use lists::has_lists;
 pub use merge_prover::MergeProver;
 pub use merge_walk::MergeWalk;
 pub use no_memory::NoMemory;
@@ -48,6 +50,3 @@ pub use shift_prover::ShiftProver;
 pub use shift_walk::ShiftWalk;
 pub use shifted::Shifted;
 pub use shifting::Shifting;
-
-#[cfg(test)]
-mod tests;
