@@ -1,0 +1,5 @@
+pub mod Awaits
+pub mod Begins
+pub mod Claims
+pub mod Ends
+pub mod Terms
