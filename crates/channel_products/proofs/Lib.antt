@@ -6,3 +6,9 @@ pub mod ShapeSteps
 pub mod WalkSteps
 pub mod ProverSteps
 pub mod GivenSteps
+pub mod DescentLaws
+pub mod DescentSteps
+pub mod StackSteps
+pub mod SumSteps
+pub mod DescentProving
+pub mod GivingSteps

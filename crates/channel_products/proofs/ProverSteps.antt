@@ -46,11 +46,11 @@ rows_alone n m s v h =
     ap product_all early ∙ sym (times_one (product_all (tabulate m f))) ∙ ap (mul (product_all (tabulate m f))) (sym late)
     ∙ sym (product_all-append (tabulate m f) (tabulate (n - m) (λ y. f (m + y)))) ∙ ap product_all (sym (tabulate-add m (n - m) f)) ∙ ap (λ k. product_all (tabulate k f)) e
 
-selected_is : (values : ℕ → List ℕ) (selector : Option ℕ) (row : ℕ) → selected_at (option_map values selector) row ≡ selector_at values selector row
+pub selected_is : (values : ℕ → List ℕ) (selector : Option ℕ) (row : ℕ) → selected_at (option_map values selector) row ≡ selector_at values selector row
 selected_is values None row = refl
 selected_is values (Some s) row = refl
 
-rows_of : {X : Type 0} (now : X → List ℕ) (row : ℕ) (ls : List X) → map (λ l. slice_index (now l) row) ls ≡ map (λ (list : List ℕ). slice_index list row) (map now ls)
+pub rows_of : {X : Type 0} (now : X → List ℕ) (row : ℕ) (ls : List X) → map (λ l. slice_index (now l) row) ls ≡ map (λ (list : List ℕ). slice_index list row) (map now ls)
 rows_of now row [] = refl
 rows_of now row (l ∷ ls) = ap (λ xs. slice_index (now l) row ∷ xs) (rows_of now row ls)
 
@@ -64,15 +64,15 @@ product_is now a g m values flush ls selector e d =
     ∙ rows_alone (2 ^ ceil_log m) m (selector_at values flush.selector) (λ row. fingerprint a g (tuple_at values flush row)) (is_least m).enough
 
 -- ---- two fillings that agree on the columns of a flush
-same_tuple : (v w : ℕ → List ℕ) (row : ℕ) (cs : List ℕ) → AllByRecursion (λ c. v c ≡ w c) cs → map (λ c. slice_index (v c) row) cs ≡ map (λ c. slice_index (w c) row) cs
+pub same_tuple : (v w : ℕ → List ℕ) (row : ℕ) (cs : List ℕ) → AllByRecursion (λ c. v c ≡ w c) cs → map (λ c. slice_index (v c) row) cs ≡ map (λ c. slice_index (w c) row) cs
 same_tuple v w row [] h = refl
 same_tuple v w row (c ∷ cs) h = (λ i. slice_index (h.0 i) row ∷ same_tuple v w row cs h.1 i)
 
-record Agree (v w : ℕ → List ℕ) (s : Option ℕ) (cs : List ℕ) : Type 0 where
-  selector : (row : ℕ) → selector_at v s row ≡ selector_at w s row
-  columns : AllByRecursion (λ c. v c ≡ w c) cs
+pub record Agree (v w : ℕ → List ℕ) (s : Option ℕ) (cs : List ℕ) : Type 0 where
+  pub selector : (row : ℕ) → selector_at v s row ≡ selector_at w s row
+  pub columns : AllByRecursion (λ c. v c ≡ w c) cs
 
-agree : (v w : ℕ → List ℕ) (selector : Option ℕ) (cs : List ℕ) → AllByRecursion (λ c. v c ≡ w c) (selector_columns selector ++ cs) → Agree v w selector cs
+pub agree : (v w : ℕ → List ℕ) (selector : Option ℕ) (cs : List ℕ) → AllByRecursion (λ c. v c ≡ w c) (selector_columns selector ++ cs) → Agree v w selector cs
 agree v w None cs h = record { selector = λ row. refl; columns = h }
 agree v w (Some s) cs h = record { selector = λ row. ap (λ list. slice_index list row) h.0; columns = h.1 }
 
@@ -183,10 +183,10 @@ named_at tables f (Some s) e h = record { columns = h.1; selector = λ t k. let 
 pub named_there : (tables : List ColumnTable) (f : Flushed) → FlushIsThere tables f → NamedThere tables f
 named_there tables f h = named_at tables f f.shape.selector refl h
 
-there_long : (tables : List ColumnTable) (t n c : ℕ) → IsThere tables t n c → length (table_of tables t c) ≡ n
+pub there_long : (tables : List ColumnTable) (t n c : ℕ) → IsThere tables t n c → length (table_of tables t c) ≡ n
 there_long tables t n c h = ap (λ (o : Option (List ℕ)). length (unwrap_or o [])) h.1 ∙ h.2
 
-long_lists : {X : Type 0} (now : X → List ℕ) (tables : List ColumnTable) (t m n : ℕ) (cs : List ℕ) (ls : List X) → map now ls ≡ map (table_of tables t) cs → AllByRecursion (IsThere tables t n) cs → m ≤ n → AllByRecursion (λ l. m ≤ length (now l)) ls
+pub long_lists : {X : Type 0} (now : X → List ℕ) (tables : List ColumnTable) (t m n : ℕ) (cs : List ℕ) (ls : List X) → map now ls ≡ map (table_of tables t) cs → AllByRecursion (IsThere tables t n) cs → m ≤ n → AllByRecursion (λ l. m ≤ length (now l)) ls
 long_lists now tables t m n cs [] e h l = tt
 long_lists now tables t m n [] (x ∷ ls) e h l = absurd cc
 long_lists now tables t m n (c ∷ cs) (x ∷ ls) e h l =

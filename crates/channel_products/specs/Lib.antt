@@ -4,3 +4,8 @@ pub mod First
 pub mod Fields
 pub mod Given
 pub mod Following
+pub mod Descent
+pub mod DescentFields
+pub mod Summands
+pub mod Stacked
+pub mod DescentProver

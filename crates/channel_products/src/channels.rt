@@ -65,7 +65,7 @@ fn copied_boundaries(
 }
 
 /// A copy of a flush.
-fn copied_flush(alloc: Global, flush: &FlushShape) -> Result<FlushShape, AllocError>
+pub(crate) fn copied_flush(alloc: Global, flush: &FlushShape) -> Result<FlushShape, AllocError>
     ensures { IfOk result (λ copy. copy ≡ flush.now) }
 {
     Ok(FlushShape {

@@ -16,7 +16,7 @@ use sumcheck::ColumnTables;
 use tower_field::{B128, Tower};
 
 /// The list of a column that is there.
-fn list_at(tables: &ColumnTables, table: u32, column: u32) -> &[B128]
+pub(crate) fn list_at(tables: &ColumnTables, table: u32, column: u32) -> &[B128]
     requires { (n : ℕ) × IsThere tables.now table n column }
     ensures { result.now ≡ table_of tables.now table column }
 {
@@ -27,7 +27,7 @@ fn list_at(tables: &ColumnTables, table: u32, column: u32) -> &[B128]
 }
 
 /// The lists of columns that are there.
-fn lists_at<'a>(
+pub(crate) fn lists_at<'a>(
     alloc: Global,
     tables: &'a ColumnTables,
     table: u32,
@@ -44,7 +44,11 @@ fn lists_at<'a>(
 }
 
 /// The tuple of a row, in place of what `tuple` holds.
-fn read_tuple(lists: &[&[B128]], row: u32, tuple: &mut Vec<B128>) -> Result<(), AllocError>
+pub(crate) fn read_tuple(
+    lists: &[&[B128]],
+    row: u32,
+    tuple: &mut Vec<B128>,
+) -> Result<(), AllocError>
     requires { All (λ l. row < length l.now) lists.now }
     ensures { IfOk result (λ _. tuple.new.items ≡ map (λ l. slice_index l.now row) lists.now) }
 {
@@ -56,7 +60,7 @@ fn read_tuple(lists: &[&[B128]], row: u32, tuple: &mut Vec<B128>) -> Result<(), 
 }
 
 /// The value of a selector at a row, and 1 where there is none.
-fn selected(selector: Option<&[B128]>, row: u32) -> B128
+pub(crate) fn selected(selector: Option<&[B128]>, row: u32) -> B128
     requires { SelectorIsLong (row + 1) (option_copied selector) }
     ensures { result ≡ selected_at (option_copied selector.entry) row }
 {

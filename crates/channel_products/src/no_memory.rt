@@ -6,6 +6,18 @@ use std::alloc::AllocError;
 #[derive(Clone, Copy, PartialEq, Eq, Debug)]
 pub struct NoMemory;
 
+impl From<cube_mle::NoMemory> for NoMemory {
+    fn from(_: cube_mle::NoMemory) -> NoMemory {
+        NoMemory
+    }
+}
+
+impl From<sumcheck::NoMemory> for NoMemory {
+    fn from(_: sumcheck::NoMemory) -> NoMemory {
+        NoMemory
+    }
+}
+
 impl From<AllocError> for NoMemory {
     fn from(_: AllocError) -> NoMemory {
         NoMemory
