@@ -8,7 +8,7 @@
 mod products;
 use products::Level;
 
-fn element(k: u64) -> u128 {
+pub fn element(k: u64) -> u128 {
     let low = k.wrapping_mul(6364136223846793005).wrapping_add(1442695040888963407);
     let high = low.wrapping_mul(2862933555777941757).wrapping_add(3037000493);
     (high as u128) << 64 | low as u128
@@ -22,10 +22,10 @@ fn point(log: u32) -> Vec<u128> {
     (0..log).map(|k| element(77 + k as u64)).collect()
 }
 
-struct Multiples(Vec<u128>);
+pub struct Multiples(Vec<u128>);
 
 impl Multiples {
-    fn new(factor: u128) -> Multiples {
+    pub fn new(factor: u128) -> Multiples {
         let mut products = Vec::with_capacity(4096);
         for place in 0..16 {
             products.push(0);
@@ -40,7 +40,7 @@ impl Multiples {
     }
 
     #[inline(always)]
-    fn times(&self, value: u128) -> u128 {
+    pub fn times(&self, value: u128) -> u128 {
         let table: &[u128; 4096] = self.0[..].try_into().unwrap();
         (0..16).fold(0, |sum, place| {
             sum ^ table[256 * place + (value >> (8 * place) & 255) as usize]
@@ -49,13 +49,13 @@ impl Multiples {
 }
 
 #[inline]
-fn times_byte(value: u128, factor: u8) -> u128 {
+pub fn times_byte(value: u128, factor: u8) -> u128 {
     (0..16).fold(0, |sum, place| {
         sum ^ (((value >> (8 * place)) as u8).times(factor) as u128) << (8 * place)
     })
 }
 
-fn fold(table: &mut Vec<u128>, r: u128) {
+pub fn fold(table: &mut Vec<u128>, r: u128) {
     let half = table.len() / 2;
     if half >= 512 {
         let multiples = Multiples::new(r);

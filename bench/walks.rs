@@ -1,0 +1,168 @@
+//! The work of `crates/walk_bench` in plain Rust, by the same forms: three claims on a column merged,
+//! a claim on a shifted column, and the carries of an adder, round by round with the same draws.
+//!
+//! `walks WORK LOG` prints the same number as the program of that crate.
+
+#[path = "products.rs"]
+#[allow(dead_code)]
+mod products;
+use products::Level;
+
+#[path = "sums.rs"]
+#[allow(dead_code)]
+mod sums;
+use sums::{element, fold, times_byte, Multiples};
+
+fn bits(log: u32, seed: u64) -> Vec<u128> {
+    let bit = |k: u64| (k ^ seed << 40).wrapping_mul(6364136223846793005) >> 63;
+    (0..1 << log).map(|k| bit(k) as u128).collect()
+}
+
+fn point(vars: u32, seed: u64) -> Vec<u128> {
+    (0..vars as u64).map(|k| element(seed + k)).collect()
+}
+
+fn eq_table(point: &[u128]) -> Vec<u128> {
+    let mut table = vec![1];
+    for &x in point {
+        let many = table.len() >= 512;
+        let multiples = Multiples::new(if many { x } else { 0 });
+        for i in 0..table.len() {
+            let high = if many { multiples.times(table[i]) } else { x.times(table[i]) };
+            table[i] ^= high;
+            table.push(high);
+        }
+    }
+    table
+}
+
+fn extension(values: &[u128], point: &[u128]) -> u128 {
+    let mut table = values.to_vec();
+    for &x in point {
+        let half = table.len() / 2;
+        for i in 0..half {
+            table[i] = table[2 * i] ^ x.times(table[2 * i] ^ table[2 * i + 1]);
+        }
+        table.truncate(half);
+    }
+    table[0]
+}
+
+/// All rounds of the sum of a form of some degree over tables, whose sum is claimed: each round's
+/// values at 0 and 1 must add up to the claim. `first` is the first draw, and each is larger by 2.
+/// Gives the values of the tables at the draws.
+fn rounds(
+    tables: &mut [Vec<u128>],
+    degree: usize,
+    mut claim: u128,
+    first: u128,
+    form: impl Fn(&[u128]) -> u128,
+) -> Vec<u128> {
+    let mut row = vec![0; tables.len()];
+    let mut draw = first;
+    while tables[0].len() > 1 {
+        let mut sums = vec![0; degree + 1];
+        for p in 0..tables[0].len() / 2 {
+            for (k, sum) in sums.iter_mut().enumerate() {
+                for (cell, table) in row.iter_mut().zip(tables.iter()) {
+                    let (low, high) = (table[2 * p], table[2 * p + 1]);
+                    *cell = match k {
+                        0 => low,
+                        1 => high,
+                        _ => low ^ times_byte(low ^ high, k as u8),
+                    };
+                }
+                *sum ^= form(&row);
+            }
+        }
+        assert_eq!(sums[0] ^ sums[1], claim);
+        claim = at(&sums, draw);
+        for table in tables.iter_mut() {
+            fold(table, draw);
+        }
+        draw += 2;
+    }
+    tables.iter().map(|table| table[0]).collect()
+}
+
+/// The polynomial with these values at 0, 1, .., at a point.
+fn at(values: &[u128], x: u128) -> u128 {
+    let mut sum = 0;
+    for (i, value) in values.iter().enumerate() {
+        let mut term = *value;
+        for j in 0..values.len() {
+            if j != i {
+                term = term.times(x ^ j as u128).times(inverse((i ^ j) as u128));
+            }
+        }
+        sum ^= term;
+    }
+    sum
+}
+
+fn inverse(x: u128) -> u128 {
+    let mut power = x;
+    let mut product = 1;
+    for _ in 1..128 {
+        power = power.times(power);
+        product = product.times(power);
+    }
+    product
+}
+
+fn merge(log: u32) -> u128 {
+    let column: Vec<u128> = (0..1 << log).map(element).collect();
+    let points = [100, 200, 300].map(|seed| point(log, seed));
+    let mu: u128 = 7;
+    let mut claim = 0;
+    let mut weights = vec![0; 1 << log];
+    for point in points.iter().rev() {
+        claim = extension(&column, point) ^ mu.times(claim);
+        for (cell, value) in weights.iter_mut().zip(eq_table(point)) {
+            *cell = value ^ mu.times(*cell);
+        }
+    }
+    let finals = rounds(&mut [weights, column], 2, claim, 9, |row| row[0].times(row[1]));
+    finals[1]
+}
+
+fn shift(log: u32) -> u128 {
+    let source = bits(log, 1);
+    let moved: Vec<u128> =
+        (0..1 << log).map(|p| if p % 32 == 0 { 0 } else { source[p - 1] }).collect();
+    let point = point(log, 100);
+    let claim = extension(&moved, &point);
+    let (low, high) = point.split_at(5);
+    let weights = eq_table(low);
+    let table = (0..32).map(|p| if p < 31 { weights[p + 1] } else { 0 }).collect();
+    let part = |u: usize| -> Vec<u128> { source.iter().copied().skip(u).step_by(32).collect() };
+    let parts = (0..32).map(|u| extension(&part(u), high)).collect();
+    let finals = rounds(&mut [table, parts], 2, claim, 8, |row| row[0].times(row[1]));
+    finals[1]
+}
+
+fn zero(log: u32) -> u128 {
+    let [a, b, c] = [1, 2, 4].map(|seed| bits(log, seed));
+    let carry = |p: usize| (a[p] ^ c[p]).times(b[p] ^ c[p]) ^ c[p];
+    let d: Vec<u128> = (0..1 << log).map(carry).collect();
+    let beta: u128 = 7;
+    let coordinates: Vec<u128> = (1..=log as u128).map(|k| 7 + k).collect();
+    let mut tables = [eq_table(&coordinates), vec![1; 1 << log], a, b, c, d];
+    let first = 7 + log as u128 + 2;
+    let finals = rounds(&mut tables, 4, 0, first, |row| {
+        let value = (row[2] ^ row[4]).times(row[3] ^ row[4]) ^ row[4] ^ row[5];
+        row[0].times(row[1].times(value ^ beta.times(0)))
+    });
+    finals[2..].iter().fold(0, |sum, value| sum ^ value)
+}
+
+fn main() {
+    let words: Vec<String> = std::env::args().collect();
+    let log = words[2].parse().unwrap();
+    let value = match words[1].as_str() {
+        "merge" => merge(log),
+        "shift" => shift(log),
+        _ => zero(log),
+    };
+    println!("{value}");
+}

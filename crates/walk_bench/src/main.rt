@@ -1,0 +1,396 @@
+//! Walks beside their provers, for timing. By the first word, over 2 ^ N values: three claims on a
+//! column merged (`merge`), a claim on a column shifted within blocks of 32 (`shift`), or the carries
+//! of an adder of 32 bits (`zero`). Prints the sum of the last message.
+
+#![tactic(auto)]
+
+ghost use Rattle.std.specs.Prelude.{◌≡◌, ◌≤◌, ◌^◌, length, true, IfOk, IsSome, Some};
+ghost use Rattle.sumcheck.specs.Machine.{Filling};
+ghost use Rattle.table_shape.specs.Limits.{max_rows};
+ghost use Rattle.eval_reduce.specs.declared.shifting.Shifting.{Shifting};
+ghost use Rattle.eval_reduce.specs.Following.{Follows};
+ghost use Rattle.eval_reduce.specs.Merge.{AllOn};
+ghost use Rattle.eval_reduce.specs.Shift.{shifting_of};
+ghost use Rattle.eval_reduce.specs.ShiftProver.{FollowsShift};
+ghost use Rattle.eval_reduce.specs.Virtual.{IsOn, IsThere};
+ghost use Rattle.zerocheck.specs.Given.{AreThere};
+ghost use Rattle.zerocheck.specs.Group.{Group as Constraints, group_of};
+ghost use Rattle.zerocheck.specs.ZeroProver.{FollowsZero};
+
+use cube_mle::mle_at;
+use eval_reduce::{MergeProver, MergeWalk, ShiftProver, ShiftWalk};
+use sqlite_items::at;
+use std::alloc::Global;
+use std::{env, io};
+use sumcheck::{ColumnClaim, ColumnTables, Honest};
+use table_shape::{ColumnKind, Shape, ShapeForm, ceil_log, resolve};
+use table_text::read_tables;
+use tower_field::{B128, Tower, Values};
+use walk_example::meet;
+use zerocheck::{ZeroProver, ZeroWalk, has_group};
+
+/// Element k of a list.
+fn element(k: u64) -> B128 {
+    let low = k
+        .wrapping_mul(6364136223846793005)
+        .wrapping_add(1442695040888963407);
+    let high = low
+        .wrapping_mul(2862933555777941757)
+        .wrapping_add(3037000493);
+    B128::join(low as u128, high as u128)
+}
+
+/// Bit k of a list that `seed` tells.
+fn bit(k: u64, seed: u64) -> B128 {
+    let hash = (k ^ seed << 40).wrapping_mul(6364136223846793005);
+    if hash >> 63 == 1 {
+        B128::ONE
+    } else {
+        B128::ZERO
+    }
+}
+
+/// What a bench may lack.
+#[derive(Clone, Copy, PartialEq, Eq, Debug)]
+struct Lack;
+
+fn column(alloc: Global, log: u32) -> Result<Vec<B128>, Lack>
+    requires { log ≤ 20 }
+    ensures { IfOk result (λ values. length values.items ≡ 2 ^ log) }
+{
+    let mut values: Vec<B128> = Vec::new(alloc);
+    'values: for p in 0..1u64 << log {
+        if values.push(element(p)).is_err() {
+            return Err(Lack);
+        }
+    }
+    Ok(values)
+}
+
+fn bits(alloc: Global, log: u32, seed: u64) -> Result<Vec<B128>, Lack>
+    requires { log ≤ 20 }
+    ensures { IfOk result (λ values. length values.items ≡ 2 ^ log) }
+{
+    let mut values: Vec<B128> = Vec::new(alloc);
+    'values: for p in 0..1u64 << log {
+        if values.push(bit(p, seed)).is_err() {
+            return Err(Lack);
+        }
+    }
+    Ok(values)
+}
+
+fn point(alloc: Global, vars: u32, seed: u64) -> Result<Vec<B128>, Lack>
+    requires { vars ≤ 32 }
+    ensures { IfOk result (λ values. length values.items ≡ vars) }
+{
+    let mut values: Vec<B128> = Vec::new(alloc);
+    'values: for k in 0..vars {
+        if values
+            .push(element(seed.wrapping_add(u64::from(k))))
+            .is_err()
+        {
+            return Err(Lack);
+        }
+    }
+    Ok(values)
+}
+
+/// A claim on a column of table 0, true of a list of values.
+fn claim(
+    alloc: Global,
+    column: u32,
+    values: &[B128],
+    vars: u32,
+    seed: u64,
+) -> Result<ColumnClaim, Lack>
+    requires few { vars ≤ 32 }
+    requires whole { length values.now ≡ 2 ^ vars }
+    ensures { IfOk result (λ c. (c.table ≡ 0) × ((c.column ≡ column) × (length c.point ≡ vars))) }
+{
+    let point = point(alloc, vars, seed)?;
+    let Ok(value) = mle_at(alloc, values, point.as_slice()) else {
+        return Err(Lack);
+    };
+    Ok(ColumnClaim {
+        table: 0,
+        column,
+        point: Values::from_vec(point),
+        value,
+    })
+}
+
+fn sum(values: &[B128]) -> B128 {
+    let mut sum = B128::ZERO;
+    for value in values {
+        sum = sum + *value;
+    }
+    sum
+}
+
+/// Walk and prover side by side to the end: the sum of the last message.
+fn meet_all<P: Honest>(alloc: Global, walk: &mut P::Walk, prover: &mut P) -> Result<B128, Lack>
+    requires { (F : Filling) × P.follows prover.old F walk.old }
+{
+    let mut values = Vec::new(alloc);
+    match meet(walk, prover, 1000, &mut values) {
+        Ok((_, true)) => Ok(sum(values.as_slice())),
+        _ => Err(Lack),
+    }
+}
+
+/// The walk of a merge and its prover, the claims stated.
+fn begin_merge(
+    alloc: Global,
+    log: u32,
+    column: &[B128],
+    claims: &[ColumnClaim],
+) -> Result<(MergeWalk, MergeProver), Lack>
+    requires few { log ≤ 20 }
+    requires whole { length column.now ≡ 2 ^ log }
+    requires many { (2 ≤ length claims.now) × (length claims.now ≤ 3) }
+    requires on { AllOn 0 5 log claims.now }
+    ensures { IfOk result (λ both. (F : Filling) × Follows both.1 F both.0) }
+{
+    let Ok(mut walk) = MergeWalk::begin(alloc, log, 3) else {
+        return Err(Lack);
+    };
+    walk.enter(claims);
+    let Ok(mut prover) = MergeProver::begin(alloc, log, 3, column) else {
+        return Err(Lack);
+    };
+    prover.enter(claims);
+    Ok((walk, prover))
+}
+
+/// Three claims on a column, merged.
+fn merged(alloc: Global, log: u32) -> Result<B128, Lack>
+    requires { log ≤ 20 }
+{
+    let column = column(alloc, log)?;
+    let column = column.as_slice();
+    let claims = [
+        claim(alloc, 5, column, log, 100)?,
+        claim(alloc, 5, column, log, 200)?,
+        claim(alloc, 5, column, log, 300)?,
+    ];
+    let (mut walk, mut prover) = begin_merge(alloc, log, column, &claims)?;
+    meet_all(alloc, &mut walk, &mut prover)
+}
+
+const SHIFTED: &[u8] = b"table t { column a : b1 x 32; virtual s = shl(a, 5, 1); }";
+
+const CARRIES: &[u8] =
+    b"table t { column a : b1 x 32; column b : b1 x 32; column c : b1 x 32; column d : b1 x 32; zero z : (a + c) * (b + c) + c + d; }";
+
+fn shape_of(alloc: Global, text: &[u8]) -> Result<Shape, Lack> {
+    if text.len() > 1000 {
+        return Err(Lack);
+    }
+    let Ok(tables) = read_tables(alloc, text) else {
+        return Err(Lack);
+    };
+    match resolve(alloc, &tables) {
+        Ok(shape) => Ok(shape),
+        Err(_) => Err(Lack),
+    }
+}
+
+/// How many rows of 32 positions are 2 ^ log positions.
+fn rows_of(log: u32) -> u32
+    requires { (5 ≤ log) × (log ≤ 20) }
+    ensures { result ≤ max_rows }
+{
+    1u32 << (log - 5)
+}
+
+/// Keeps a list for a column that has none.
+fn keep(tables: &mut ColumnTables, column: u32, values: Vec<B128>) -> Result<(), Lack> {
+    if tables.get(0, column).is_some() || tables.add(0, column, values).is_err() {
+        return Err(Lack);
+    }
+    Ok(())
+}
+
+/// The carries of sums of three bits each.
+fn carry_bits(alloc: Global, a: &[B128], b: &[B128], c: &[B128]) -> Result<Vec<B128>, Lack>
+    requires equal { (length b.now ≡ length a.now) × (length c.now ≡ length a.now) }
+    ensures { IfOk result (λ values. length values.items ≡ length a.now) }
+{
+    let mut values: Vec<B128> = Vec::new(alloc);
+    'values: for p in 0..a.len() {
+        if values.push((a[p] + c[p]) * (b[p] + c[p]) + c[p]).is_err() {
+            return Err(Lack);
+        }
+    }
+    Ok(values)
+}
+
+/// The walk of a group of the first table and its prover, the claim stated.
+fn begin_zero(
+    alloc: Global,
+    shape: &Shape,
+    log_values: u32,
+    rows: u32,
+    tables: &ColumnTables,
+) -> Result<(ZeroWalk, ZeroProver), Lack>
+    requires some { IsSome (group_of shape.now.tables rows 0 log_values) }
+    requires few { rows ≤ max_rows }
+    requires there { (g : Constraints) → group_of shape.now.tables rows 0 log_values ≡ Some g → AreThere tables.now g.table (2 ^ g.vars) g.columns }
+    ensures { IfOk result (λ both. (F : Filling) × FollowsZero both.1 F both.0) }
+{
+    let Ok(mut walk) = ZeroWalk::begin(alloc, shape, 0, log_values, rows) else {
+        return Err(Lack);
+    };
+    walk.enter();
+    let Ok(mut prover) = ZeroProver::begin(alloc, shape, 0, log_values, rows, tables) else {
+        return Err(Lack);
+    };
+    prover.enter();
+    Ok((walk, prover))
+}
+
+/// Bits of three summands, and their carries.
+fn carry_tables(alloc: Global, log: u32) -> Result<ColumnTables, Lack>
+    requires { log ≤ 20 }
+{
+    let (a, b, c) = (
+        bits(alloc, log, 1)?,
+        bits(alloc, log, 2)?,
+        bits(alloc, log, 4)?,
+    );
+    let d = carry_bits(alloc, a.as_slice(), b.as_slice(), c.as_slice())?;
+    let mut tables = ColumnTables::new(alloc);
+    keep(&mut tables, 0, a)?;
+    keep(&mut tables, 1, b)?;
+    keep(&mut tables, 2, c)?;
+    keep(&mut tables, 3, d)?;
+    Ok(tables)
+}
+
+/// The constraint of an adder of 32 bits, on 2 ^ log positions.
+fn carries(alloc: Global, log: u32) -> Result<B128, Lack>
+    requires { (5 ≤ log) × (log ≤ 20) }
+{
+    let shape = shape_of(alloc, CARRIES)?;
+    let tables = carry_tables(alloc, log)?;
+    let rows = rows_of(log);
+    if !has_group(&shape, 0, 5) {
+        return Err(Lack);
+    }
+    let Ok(there) = zerocheck::has_lists(alloc, &shape, 0, 5, rows, &tables) else {
+        return Err(Lack);
+    };
+    if !there {
+        return Err(Lack);
+    }
+    let (mut walk, mut prover) = begin_zero(alloc, &shape, 5, rows, &tables)?;
+    meet_all(alloc, &mut walk, &mut prover)
+}
+
+/// A list moved up by one in blocks of 32.
+fn moved(alloc: Global, source: &[B128]) -> Result<Vec<B128>, Lack>
+    ensures { IfOk result (λ values. length values.items ≡ length source.now) }
+{
+    let mut values: Vec<B128> = Vec::new(alloc);
+    'values: for p in 0..source.len() {
+        let value = if p % 32 == 0 {
+            B128::ZERO
+        } else {
+            source[p - 1]
+        };
+        if values.push(value).is_err() {
+            return Err(Lack);
+        }
+    }
+    Ok(values)
+}
+
+/// Whether a claim is on a column that is moved up, at one of its points.
+fn is_on_moved(shape: &Shape, rows: u32, claim: &ColumnClaim) -> bool
+    ensures { result ≡ true → (f : Shifting) × (_ : shifting_of shape.now.tables rows claim.now.table claim.now.column ≡ Some f) × IsOn f.table f.column f.vars claim.now }
+{
+    let Some(table) = at(shape.tables(), claim.table as usize) else {
+        return false;
+    };
+    let Some(column) = at(table.columns.as_slice(), claim.column as usize) else {
+        return false;
+    };
+    let vars = u64::from(ceil_log(u64::from(rows))) + u64::from(column.log_values);
+    match &column.kind {
+        ColumnKind::Virtual(ShapeForm::Shl { .. }) => claim.point.as_slice().len() as u64 == vars,
+        _ => false,
+    }
+}
+
+/// The walk of a shifted column and its prover, the claim stated.
+fn begin_shift(
+    alloc: Global,
+    shape: &Shape,
+    rows: u32,
+    tables: &ColumnTables,
+    claim: &ColumnClaim,
+) -> Result<(ShiftWalk, ShiftProver), Lack>
+    requires form { (f : Shifting) × (_ : shifting_of shape.now.tables rows claim.now.table claim.now.column ≡ Some f) × IsOn f.table f.column f.vars claim.now }
+    requires there { (f : Shifting) → shifting_of shape.now.tables rows claim.now.table claim.now.column ≡ Some f → IsThere tables.now claim.now.table f.source (2 ^ f.vars) }
+    ensures { IfOk result (λ both. (F : Filling) × FollowsShift both.1 F both.0) }
+{
+    let Ok(mut prover) = ShiftProver::begin(alloc, shape, claim.table, claim.column, rows, tables)
+    else {
+        return Err(Lack);
+    };
+    prover.enter(claim);
+    let Ok(mut walk) = ShiftWalk::begin(alloc, shape, claim.table, claim.column, rows) else {
+        return Err(Lack);
+    };
+    walk.enter(claim);
+    Ok((walk, prover))
+}
+
+/// A claim on a shifted column.
+fn shifted(alloc: Global, log: u32) -> Result<B128, Lack>
+    requires { (5 ≤ log) × (log ≤ 20) }
+{
+    let shape = shape_of(alloc, SHIFTED)?;
+    let rows = rows_of(log);
+    let source = bits(alloc, log, 1)?;
+    let list = moved(alloc, source.as_slice())?;
+    let claim = claim(alloc, 1, list.as_slice(), log, 100)?;
+    let mut tables = ColumnTables::new(alloc);
+    keep(&mut tables, 0, source)?;
+    if !is_on_moved(&shape, rows, &claim) {
+        return Err(Lack);
+    }
+    if !eval_reduce::has_lists(&shape, claim.table, claim.column, rows, &tables) {
+        return Err(Lack);
+    }
+    let (mut walk, mut prover) = begin_shift(alloc, &shape, rows, &tables, &claim)?;
+    meet_all(alloc, &mut walk, &mut prover)
+}
+
+fn main(rt: HostRuntime) -> io::Result<()> {
+    let mut words = env::args(&rt)?;
+    let _program = words.next();
+    let Some(kind) = words.next() else {
+        return Ok(());
+    };
+    let log = match words.next() {
+        Some(word) => word.as_str().parse::<u32>().unwrap_or(5),
+        None => 5,
+    };
+    if log < 5 || log > 20 {
+        return Ok(());
+    }
+    let value = match kind.as_str() {
+        "merge" => merged(rt.alloc(), log),
+        "shift" => shifted(rt.alloc(), log),
+        _ => carries(rt.alloc(), log),
+    };
+    match value {
+        Ok(value) => {
+            let number = value.number();
+            println!(rt; "{number}")
+        }
+        Err(Lack) => println!(rt; "lacking"),
+    }
+}
