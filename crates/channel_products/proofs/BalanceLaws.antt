@@ -25,7 +25,7 @@ use Rattle.channel_products.proofs.SideLaws.{side_is}
 at_stated : (F : Filling) (ch : Channels) → AtDraw balancing (stated ch) ch.alphas (Draw Gamma ch.gammas ∷ Message Products (length ch.flushes) ∷ []) F
 at_stated F ch = record {
   next = λ r. refl;
-  fits = λ r f. f;
+  fits = λ r e f. f;
   counted = λ f wrong. alpha_count ch.alphas (balances F ch) f.wide f.alphas wrong;
   stays = λ r f h. all_collapsed r (balances F ch) h;
 }
@@ -33,7 +33,7 @@ at_stated F ch = record {
 at_collapsing : (F : Filling) (ch : Channels) (a : ℕ) → AtDraw balancing (collapsing ch a) ch.gammas (Message Products (length ch.flushes) ∷ []) F
 at_collapsing F ch a = record {
   next = λ r. refl;
-  fits = λ r f. f;
+  fits = λ r e f. f;
   counted = λ f wrong. gamma_count ch.gammas a (balances F ch) f.gammas wrong;
   stays = λ r f h. all_multiplied a r (balances F ch) h;
 }

@@ -204,7 +204,7 @@ at_join F p =
     let line : ℕ → ℕ = λ c. bit_xor (mul p.low (bit_xor 1 c)) (mul p.high c) in
     record {
       next = λ r. descending_entries f t.at.alpha t.at.gamma (suc t.layer) t.below (p.point ++ r ∷ []) (line r);
-      fits = λ r h. descending_fits F f t.at.alpha t.at.gamma (suc t.layer) t.below (p.point ++ r ∷ []) (line r) (after_join F p r h);
+      fits = λ r e h. descending_fits F f t.at.alpha t.at.gamma (suc t.layer) t.below (p.point ++ r ∷ []) (line r) (after_join F p r h);
       counted = λ h wrong.
           at_most_weaker (λ r. DescentHolds F (joined p r)) (λ r. extension below (p.point ++ r ∷ []) ≡ line r) 1 1
           (λ r w. descending_tells F f t.at.alpha t.at.gamma (suc t.layer) t.below (p.point ++ r ∷ []) (line r) (after_join F p r h) w) (omega arith)

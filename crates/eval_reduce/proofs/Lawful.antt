@@ -88,7 +88,7 @@ at_opening F t k n cs =
     = λ r l o. merge_is n r (points cs) (F t k) (points_long t k n cs o) l in
     record {
       next = λ r. refl;
-      fits = λ r f. (subst (merge_sum.fits F (joined t k n cs r)) (from_none n) (refl, (f.0, points_long t k n cs f.1)), (omega arith, omega arith));
+      fits = λ r e f. (subst (merge_sum.fits F (joined t k n cs r)) (from_none n) (refl, (f.0, points_long t k n cs f.1)), (omega arith, omega arith));
       counted = λ f wrong.
           at_most_weaker _ _ (length (map (extension (F t k)) (points cs)) - 1) (length cs - 1) (λ r h. sym (first r f.0 f.1) ∙ h)
           (let e = length-extensions (F t k) cs in omega arith)

@@ -113,7 +113,7 @@ at_list F f z p v n =
     let true_list = corner_values (F f.table f.source) f.log z in
     record {
       next = λ r. listing_entries f z (p ++ r ∷ []) (fold_low r v) n;
-      fits = λ r h. listing_fits F f z (p ++ r ∷ []) (fold_low r v) n (next_list F f z p v n r (of_list F f z p v n h));
+      fits = λ r e h. listing_fits F f z (p ++ r ∷ []) (fold_low r v) n (next_list F f z p v n r (of_list F f z p v n h));
       counted = λ h wrong.
           at_most_weaker _ (λ r. fold_low r (fold_all p true_list) ≡ fold_low r v) 1 1
           (λ r w. sym (fold_all-last p true_list r) ∙ listing_tells F f z (p ++ r ∷ []) (fold_low r v) n (next_list F f z p v n r (of_list F f z p v n h)) w) (omega arith)

@@ -65,7 +65,7 @@ at_bind X F t d n z v =
     let s = X.sum F t in
     record {
       next = λ r. refl;
-      fits = λ r f. (subst (X.fits F t) (one_more z r n) f.0, f.1.0);
+      fits = λ r e f. (subst (X.fits F t) (one_more z r n) f.0, f.1.0);
       counted = λ f wrong. draws_counted s z n d v f.1.0.1 f.1.1 wrong;
       stays = λ r f h. honest_draw s z n r v h;
     }

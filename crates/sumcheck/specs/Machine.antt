@@ -1,6 +1,7 @@
 -- A reduction as a machine over values: what remains, what is refused, what is claimed, what is true.
 -- Source: docs/REDUCTIONS.md, "A reduction".
 use Rattle.std.specs.Prelude.{◌≡◌, ℕ, Bool, true, false, List, [], ◌∷◌, length, Option, None, Some, is_some}
+use Rattle.tower_laws.specs.Tower.{Fits}
 use Rattle.counting_laws.specs.Counting.{AtMost}
 use Rattle.poly_forms.specs.declared.check_kind.CheckKind.{CheckKind}
 use Rattle.poly_forms.specs.declared.check_kind.CheckKind.TheVariants.{RoundSum}
@@ -48,8 +49,9 @@ pub record AtMessage {S : Type 0} (M : Machine S) (s : S) (n : ℕ) (es : List E
 -- what it owes at a draw of count n
 pub record AtDraw {S : Type 0} (M : Machine S) (s : S) (n : ℕ) (es : List Entry) (F : Filling) : Type 0 where
   pub next : (r : ℕ) → M.entries (M.after_draw s r) ≡ es
-  pub fits : (r : ℕ) → M.fits F s → M.fits F (M.after_draw s r)
-  -- at most n challenges turn a false state true
+  -- challenges are elements of level 7
+  pub fits : (r : ℕ) → Fits 7 r → M.fits F s → M.fits F (M.after_draw s r)
+  -- at most n numbers turn a false state true
   pub counted : M.fits F s → ¬ M.holds F s → AtMost n (λ r. M.holds F (M.after_draw s r))
   -- and none turns a true state false
   pub stays : (r : ℕ) → M.fits F s → M.holds F s → M.holds F (M.after_draw s r)

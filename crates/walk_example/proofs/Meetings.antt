@@ -1,5 +1,6 @@
 -- A walk and its prover, side by side.
 use Rattle.std.proofs.Common.{◌≡◌, ℕ, List, [], ◌∷◌, length, Some, refl, sym, ◌∙◌, ap, subst}
+use Rattle.tower_laws.specs.Tower.{Fits}
 use Rattle.sumcheck.specs.declared.entry.Entry.{Entry}
 use Rattle.sumcheck.specs.declared.entry.Entry.TheVariants.{Message, Draw}
 use Rattle.poly_forms.specs.declared.check_kind.CheckKind.{CheckKind}
@@ -36,8 +37,8 @@ draw_passes M law s t r e k n b h d =
     let due = due_draw M s e k n (M.entries s) refl b h in
     due.1 ∙ (λ i. sym b i ∷ sym (ap M.entries d ∙ (law.draw (λ t c. []) s k n due.0 due.1).next r) i)
 
-pub draw_stays : {S : Type 0} (M : Machine S) → Lawful M → (F : Filling) (s t : S) (r : ℕ) (e : Entry) (k : DrawKind) (n : ℕ) → e ≡ Draw k n → first_entry (M.entries s) ≡ Some e → t ≡ M.after_draw s r → IsTrueOf M F s → IsTrueOf M F t
-draw_stays M law F s t r e k n b h d w =
+pub draw_stays : {S : Type 0} (M : Machine S) → Lawful M → (F : Filling) (s t : S) (r : ℕ) → Fits 7 r → (e : Entry) (k : DrawKind) (n : ℕ) → e ≡ Draw k n → first_entry (M.entries s) ≡ Some e → t ≡ M.after_draw s r → IsTrueOf M F s → IsTrueOf M F t
+draw_stays M law F s t r small e k n b h d w =
     let due = due_draw M s e k n (M.entries s) refl b h in
     let at = law.draw F s k n due.0 due.1 in
-    subst (IsTrueOf M F) (sym d) (record { fits = at.fits r w.fits; holds = at.stays r w.fits w.holds })
+    subst (IsTrueOf M F) (sym d) (record { fits = at.fits r small w.fits; holds = at.stays r w.fits w.holds })

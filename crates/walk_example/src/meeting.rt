@@ -1,11 +1,19 @@
 //! A walk and its prover, side by side.
 
 ghost use Rattle.std.specs.Prelude.{◌≡◌, ◌+◌, ◌<◌, ◌^◌, ◌∷◌, length, is_none, true, false, IfOk, Some};
+ghost use Rattle.tower_laws.specs.Tower.{Fits};
 ghost use Rattle.sumcheck.specs.Machine.{first_entry, Filling};
 ghost use Rattle.walk_example.specs.Meeting.{IsTrueOf};
 
 use sumcheck::{Entry, Honest, NoMemory, Steps};
 use tower_field::{B128, Tower};
+
+/// That a challenge is an element of level 7. Does nothing.
+fn fits(challenge: B128)
+    ensures { Fits 7 challenge }
+{
+    let _ = challenge.number();
+}
 
 /// The entry that is due, on both sides: whether it passes. That of a true state does.
 pub fn step<P: Honest>(
@@ -32,6 +40,7 @@ pub fn step<P: Honest>(
             Ok(true)
         }
         Entry::Draw { .. } => {
+            fits(challenge);
             walk.draw(challenge);
             prover.draw(challenge);
             Ok(true)

@@ -138,7 +138,7 @@ at_stated F g =
     let ts = tables F g (forms g) in
     record {
       next = λ r. zeroing_entries g r [] g.vars;
-      fits = λ r f. zeroing_fits F g r [] g.vars (first f);
+      fits = λ r e f. zeroing_fits F g r [] g.vars (first f);
       counted = λ f wrong.
           at_most_weaker _ (λ r. batched (2 ^ g.vars) r ts ≡ zeros (2 ^ g.vars)) (length ts - 1) (length g.constraints - 1)
           (λ r h. sym (zero_list_is F g r) ∙ zeroing_tells F g r [] g.vars (first f) h)
@@ -165,7 +165,7 @@ at_vector F g a p n =
     let drawn : ZeroFits F (vector g a p n) → IsDrawn F g p (suc n) = λ f. record { left = f.0; fits = f.1 } in
     record {
       next = λ r. zeroing_entries g a (p ++ r ∷ []) n;
-      fits = λ r f. zeroing_fits F g a (p ++ r ∷ []) n (next_drawn F g p n r (drawn f));
+      fits = λ r e f. zeroing_fits F g a (p ++ r ∷ []) n (next_drawn F g p n r (drawn f));
       counted = λ f wrong.
           at_most_weaker _ (λ r. fold_low r (fold_all p list) ≡ zeros (2 ^ n)) 1 1
           (λ r w. sym (fold_all-last p list r) ∙ zeroing_tells F g a (p ++ r ∷ []) n (next_drawn F g p n r (drawn f)) w) (omega arith)
