@@ -1,13 +1,17 @@
 -- Steps of whether lists are there.
-use Rattle.std.proofs.Common.{◌≡◌, ◌∙◌, ℕ, ◌%◌, ◌*◌, ◌^◌, ◌<◌, ◌≤◌, Bool, true, false, ◌&&◌, List, [], ◌∷◌, ◌++◌, IsTrue, refl, sym, ap, subst, arith}
+use Rattle.std.proofs.Common.{◌≡◌, ◌∙◌, ℕ, zero, suc, ◌+◌, ◌%◌, ◌*◌, ◌^◌, ◌<◌, ◌≤◌, Bool, true, false, ◌&&◌, List, [], ◌∷◌, ◌++◌, IsTrue, Some, refl, sym, ap, subst, arith}
 use Rattle.std.specs.Prelude.{◌↔◌}
-use Rattle.std.specs.List.{AllByRecursion}
+use Rattle.std.specs.List.{AllByRecursion, slice_get, slice_index}
 use Rattle.std.proofs.lemmas.Nat.{one_shl}
 use Rattle.list_laws.specs.CeilLog.{ceil_log}
 use Rattle.list_laws.proofs.CeilLog.{at_most}
 use Rattle.sumcheck.specs.declared.column_tables.ColumnTable.{ColumnTable}
+use Rattle.table_shape.specs.declared.shape.FlushShape.{FlushShape}
+use Rattle.table_shape.specs.declared.shape.TableShape.{TableShape}
 use Rattle.channel_products.specs.declared.flushed.Flushed.{Flushed}
-use Rattle.channel_products.specs.Given.{FlushIsThere, IsThere, named_columns, selector_columns}
+use Rattle.channel_products.specs.Channels.{flushes_from, flushes_of}
+use Rattle.channel_products.specs.DescentFields.{flush_in, EachIsThere}
+use Rattle.channel_products.specs.Given.{AreThere, FlushIsThere, IsThere, named_columns, selector_columns}
 
 joined : {X : Type 0} (P : X → Type 0) (xs ys : List X) → AllByRecursion P xs → AllByRecursion P ys → AllByRecursion P (xs ++ ys)
 joined P [] ys h k = k
@@ -47,3 +51,26 @@ flush_else tables f n a e h t = (
   (λ s. absurd (let w = sym t ∙ s in cc)),
   (λ s. h.1 (subst (λ (m : ℕ). AllByRecursion (IsThere tables f.table m) (selector_columns f.shape.selector)) (sym e) (firsts (IsThere tables f.table (2 ^ ceil_log f.rows)) (selector_columns f.shape.selector) f.shape.columns s))),
 )
+
+-- ---- flushes of a shape, one by one
+of_table : (P : Flushed → Type 0) (t rows n k m : ℕ) (fs : List FlushShape) (f : FlushShape) → AllByRecursion P (flushes_of t rows n fs) → slice_get fs k ≡ Some f → m ≡ n + k
+    → P (record { table = t; number = m; rows = rows; shape = f })
+of_table P t rows n k m [] f h e i = absurd (cc)
+of_table P t rows n zero m (x ∷ fs) f h e i =
+    let same : x ≡ f = cc in
+    let here : n ≡ m = omega arith in
+    subst (λ (y : FlushShape). P (record { table = t; number = m; rows = rows; shape = y })) same (subst (λ (j : ℕ). P (record { table = t; number = j; rows = rows; shape = x })) here h.0)
+of_table P t rows n (suc k) m (x ∷ fs) f h e i = of_table P t rows (n + 1) k m fs f h.1 e (omega arith)
+
+of_tables : (P : Flushed → Type 0) (rows : List ℕ) (s t k j : ℕ) (tables : List TableShape) (f : FlushShape) → AllByRecursion P (flushes_from rows s tables) → flush_in tables t k ≡ Some f → j ≡ s + t
+    → P (record { table = j; number = k; rows = slice_index rows j; shape = f })
+of_tables P rows s t k j [] f h e i = absurd (cc)
+of_tables P rows s zero k j (table ∷ tables) f h e i =
+    let here : s ≡ j = omega arith in
+    let own = firsts P (flushes_of s (slice_index rows s) 0 table.flushes) (flushes_from rows (s + 1) tables) h in
+    subst (λ (m : ℕ). P (record { table = m; number = k; rows = slice_index rows m; shape = f })) here (of_table P s (slice_index rows s) 0 k k table.flushes f own e (omega arith))
+of_tables P rows s (suc t) k j (table ∷ tables) f h e i =
+    of_tables P rows (s + 1) t k j tables f (lasts P (flushes_of s (slice_index rows s) 0 table.flushes) (flushes_from rows (s + 1) tables) h) e (omega arith)
+
+pub each_there : (shape : List TableShape) (rows : List ℕ) (tables : List ColumnTable) → AreThere tables (flushes_from rows 0 shape) → EachIsThere shape rows tables
+each_there shape rows tables h = λ t k f e. of_tables (FlushIsThere tables) rows 0 t k t shape f h e (omega arith)

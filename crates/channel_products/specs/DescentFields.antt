@@ -1,7 +1,8 @@
 -- What the fields of a walk of a flush stand for.
 -- Source: docs/REDUCTIONS.md, "Products of flushes".
-use Rattle.std.specs.Prelude.{◌≡◌, ℕ, zero, suc, ◌+◌, List, [], ◌∷◌, ◌++◌, Option, option_and_then, slice_get}
+use Rattle.std.specs.Prelude.{◌≡◌, ℕ, zero, suc, ◌+◌, List, [], ◌∷◌, ◌++◌, Option, Some, option_and_then, slice_get, slice_index}
 use Rattle.sumcheck.specs.declared.column_claim.ColumnClaim.{ColumnClaim}
+use Rattle.sumcheck.specs.declared.column_tables.ColumnTable.{ColumnTable}
 use Rattle.sumcheck.specs.Rounds.{Rounds, sum_claim, bound}
 use Rattle.sumcheck.specs.Summing.{adding, closed}
 use Rattle.table_shape.specs.declared.shape.FlushShape.{FlushShape}
@@ -9,10 +10,15 @@ use Rattle.table_shape.specs.declared.shape.TableShape.{TableShape}
 use Rattle.channel_products.specs.declared.product_walk.Stage.{Stage}
 use Rattle.channel_products.specs.declared.product_walk.Stage.TheVariants.{Waiting, Layers, Joining, Leaves, Done}
 use Rattle.channel_products.specs.Descent.{Descent, Layered, layers, leaves, row_vars, waiting}
+use Rattle.channel_products.specs.Given.{FlushIsThere}
 
 -- flush f of table t
 abbrev pub flush_in : List TableShape → ℕ → ℕ → Option FlushShape
 flush_in tables t f = option_and_then (λ (table : TableShape). slice_get table.flushes f) (slice_get tables t)
+
+-- each flush of the shape has its columns
+abbrev pub EachIsThere : List TableShape → List ℕ → List ColumnTable → Type 0
+EachIsThere shape rows tables = (t k : ℕ) (f : FlushShape) → flush_in shape t k ≡ Some f → FlushIsThere tables (record { table = t; number = k; rows = slice_index rows t; shape = f })
 
 -- the state
 abbrev pub descent_of : Stage → Layered → Rounds → ℕ → ℕ → List ColumnClaim → Descent

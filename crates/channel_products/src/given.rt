@@ -5,6 +5,7 @@ ghost use Rattle.std.specs.List.{AllByRecursion};
 ghost use Rattle.list_laws.specs.CeilLog.{ceil_log};
 ghost use Rattle.table_shape.specs.Limits.{max_rows};
 ghost use Rattle.channel_products.specs.Channels.{channels_of};
+ghost use Rattle.channel_products.specs.DescentFields.{EachIsThere};
 ghost use Rattle.channel_products.specs.Given.{selector_columns, AreThere, FlushIsThere, IsThere};
 
 use crate::channels::Channels;
@@ -77,7 +78,7 @@ fn all_there(tables: &ColumnTables, flushes: &[Flushed]) -> bool
 }
 
 /// Whether `tables` has a list for every column that a flush of the shape names, with a value for each
-/// row of the filled-up table, as `BalanceProver::begin` asks.
+/// row of the filled-up table, as `BalanceProver::begin` and `ProductProver::begin` ask.
 pub fn has_lists(
     alloc: Global,
     shape: &Shape,
@@ -86,7 +87,8 @@ pub fn has_lists(
 ) -> Result<bool, NoMemory>
     requires counts { length rows.now ≡ length shape.now.tables }
     requires few { (t : ℕ) → slice_index rows.now t ≤ max_rows }
-    ensures { IfOk result (λ there. let channels = channels_of shape.now rows.now in (IsTrue there ↔ AreThere tables.now channels.flushes)) }
+    ensures all { IfOk result (λ there. let channels = channels_of shape.now rows.now in (IsTrue there ↔ AreThere tables.now channels.flushes)) }
+    ensures each { IfOk result (λ there. IsTrue there → EachIsThere shape.now.tables rows.now tables.now) }
 {
     let channels = Channels::of(alloc, shape, rows)?;
     Ok(all_there(tables, channels.flushes.as_slice()))
