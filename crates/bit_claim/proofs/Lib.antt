@@ -3,3 +3,4 @@ pub mod Falling
 pub mod Numbered
 pub mod Standing
 pub mod PlaceSteps
+pub mod BatchLaws

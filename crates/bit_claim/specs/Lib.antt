@@ -1,2 +1,5 @@
 pub mod Placement
 pub mod Apart
+pub mod Bits
+pub mod Batching
+pub mod Filled

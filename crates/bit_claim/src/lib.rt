@@ -4,5 +4,5 @@
 mod laws;
 mod placement;
 
-pub use laws::blocks_stand_apart;
+pub use laws::{batches_keep_truth, blocks_stand_apart};
 pub use placement::{Block, Placement, place};

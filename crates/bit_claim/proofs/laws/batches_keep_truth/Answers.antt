@@ -1,0 +1,5 @@
+use Rattle.bit_claim.proofs.BatchLaws.{batching_lawful}
+use Rattle.bit_claim.proofs.laws.batches_keep_truth.Goals as goal
+
+pub returns : goal.returns
+returns c = record { lawful = batching_lawful }
