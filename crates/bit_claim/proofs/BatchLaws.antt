@@ -1,5 +1,5 @@
 -- Claims on columns become one on the table of bits, and keep truth as they should.
-use Rattle.std.proofs.Common.{◌≡◌, ◌∙◌, ℕ, zero, suc, ◌+◌, ◌-◌, ◌*◌, ◌^◌, ◌<◌, ◌≤◌, List, [], ◌∷◌, ◌++◌, length, map, take, drop, slice_index, refl, sym, ap, subst, arith}
+use Rattle.std.proofs.Common.{◌≡◌, ◌∙◌, ℕ, zero, suc, ◌+◌, ◌-◌, ◌^◌, List, [], ◌∷◌, ◌++◌, length, map, take, drop, slice_index, refl, sym, ap, subst, arith}
 use Rattle.std.proofs.lemmas.List.{append_assoc, drop-drop, length-drop, length-take-le, take-append-drop}
 use Rattle.std.specs.List.{AllByRecursion}
 use Rattle.tower_laws.specs.Tower.{Fits, mul}
@@ -10,7 +10,6 @@ use Rattle.poly_laws.proofs.Batches.{batches_differ}
 use Rattle.cube_laws.specs.Extension.{dot, extension}
 use Rattle.cube_laws.specs.SumClaim.{sum_at, AllLong}
 use Rattle.batch_laws.proofs.Batching.{batch_sum as batch_is, batch_final}
-use Rattle.column_laws.specs.Columns.{placed, placed_at}
 use Rattle.column_laws.proofs.Placing.{length-placed, placed_point, placed_truth}
 use Rattle.poly_forms.specs.declared.check_kind.CheckKind.{CheckKind}
 use Rattle.poly_forms.specs.declared.check_kind.CheckKind.TheVariants.{BitFinal}
@@ -22,12 +21,12 @@ use Rattle.sumcheck.specs.declared.entry.Entry.TheVariants.{Message, Draw}
 use Rattle.sumcheck.specs.Column.{ColumnHolds}
 use Rattle.sumcheck.specs.Machine.{Filling, Lawful, AtMessage, AtDraw, RoundIsClaimed}
 use Rattle.sumcheck.specs.Rounds.{Rounds, sum_claim, round_claim, bound, rounds, rounds_draw}
-use Rattle.sumcheck.specs.Summing.{LawfulSumming, KeepsTruth, Summed, adding, closed, summed_entries, summed_message}
+use Rattle.sumcheck.specs.Summing.{LawfulSumming, KeepsTruth, adding, closed, summed_message}
 use Rattle.sumcheck.proofs.Entries.{same_draw}
 use Rattle.sumcheck.proofs.Lawful.{keeps_truth}
 use Rattle.table_shape.specs.Placement.{Block, places_log}
 use Rattle.bit_claim.specs.Bits.{above_in, bits, claim_at, claim_table, level_in, part_in, size_in, Stands}
-use Rattle.bit_claim.specs.Batching.{AllStand, Batched, Batching, BitValue, PointFits, waiting, opening, summed, batch_sum, batching, batching_entries, batching_round, values}
+use Rattle.bit_claim.specs.Batching.{AllStand, Batched, Batching, PointFits, waiting, opening, summed, batch_sum, batching, batching_entries, batching_round, values}
 
 -- ---- a claim's table
 -- a point in three pieces: of a value's bits, of the position, of the part

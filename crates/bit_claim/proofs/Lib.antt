@@ -3,4 +3,7 @@ pub mod Falling
 pub mod Numbered
 pub mod Standing
 pub mod PlaceSteps
+pub mod Levels
 pub mod BatchLaws
+pub mod PartSteps
+pub mod WalkSteps

@@ -15,7 +15,7 @@ use Rattle.bit_claim.proofs.Numbered.{once, table_bits_at_most}
 start_is : (tables : List TableShape) (rows : List ℕ) (k : ℕ) (b : Block) → slice_get (blocks tables rows) k ≡ Some b → start b (blocks tables rows) ≡ bits_taken (take k (blocks tables rows))
 start_is tables rows k b at = offset_is k (blocks tables rows) b at (once b.table b.column tables rows)
 
-held : (bs : List Block) → bits_taken bs ≤ 2 ^ places_log bs
+pub held : (bs : List Block) → bits_taken bs ≤ 2 ^ places_log bs
 held bs =
     let most : ceil_log (bits_taken bs) ≤ max 8 (ceil_log (bits_taken bs)) = omega arith in
     omega (arith, (is_least (bits_taken bs)).enough, power_bound (ceil_log (bits_taken bs)) (max 8 (ceil_log (bits_taken bs))) most)

@@ -1,6 +1,6 @@
 -- Claims on committed columns, turned into one claim on the table of all bits.
 -- Source: Diamond and Posen, ePrint 2023/1784, the section on binary towers; docs/REDUCTIONS.md, "Bits of columns".
-use Rattle.std.specs.Prelude.{◌≡◌, ◌<◌, ℕ, ◌-◌, ◌^◌, List, [], ◌∷◌, ◌++◌, length, map, slice_index, Option, None, Some}
+use Rattle.std.specs.Prelude.{◌≡◌, ◌<◌, ℕ, ◌-◌, ◌^◌, List, [], ◌∷◌, ◌++◌, length, map, slice_index, Option, None}
 use Rattle.std.specs.List.{AllByRecursion}
 use Rattle.tower_laws.specs.Tower.{mul}
 use Rattle.tower_laws.specs.Lists.{AllFit}

@@ -3,3 +3,4 @@ pub mod Apart
 pub mod Bits
 pub mod Batching
 pub mod Filled
+pub mod BitWalk

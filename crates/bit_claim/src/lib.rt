@@ -1,8 +1,17 @@
-//! The claim of bits: where the bits of the committed columns stand in one table.
+//! The claim of bits: where the bits of the committed columns stand in one table, and claims on the
+//! columns as one claim on that table.
 #![tactic(auto)]
 
+mod batched;
+mod bit_value;
+mod bit_walk;
 mod laws;
+mod no_memory;
+mod part;
 mod placement;
+mod room;
 
+pub use bit_walk::BitWalk;
 pub use laws::{batches_keep_truth, blocks_stand_apart};
+pub use no_memory::NoMemory;
 pub use placement::{Block, Placement, place};
