@@ -7,3 +7,4 @@ pub mod Levels
 pub mod BatchLaws
 pub mod PartSteps
 pub mod WalkSteps
+pub mod TablePlaces

@@ -1,8 +1,8 @@
 -- Where the bits of a claim's column stand, and its table's extension at a point.
-use Rattle.std.proofs.Common.{◌≡◌, ℕ, suc, ◌+◌, ◌-◌, ◌*◌, ◌/◌, ◌%◌, ◌^◌, ◌<◌, ◌≤◌, Bool, true, false, cond, List, [], ◌∷◌, length, drop, get_or, min, Some, bit_xor, refl, sym, ap, ◌∙◌, inl, inr, ◌⊎◌, arith}
+use Rattle.std.proofs.Common.{◌≡◌, ℕ, suc, ◌+◌, ◌-◌, ◌*◌, ◌/◌, ◌%◌, ◌^◌, ◌<◌, ◌≤◌, Bool, true, false, cond, List, [], ◌∷◌, length, drop, get_or, min, Some, bit_xor, option_map, unwrap_or, refl, sym, ap, subst, ◌∙◌, inl, inr, ◌⊎◌, arith}
 use Rattle.std.proofs.lemmas.Bool.{cases_lt}
 use Rattle.std.proofs.lemmas.List.{drop_all}
-use Rattle.std.proofs.lemmas.Nat.{one_shl}
+use Rattle.std.proofs.lemmas.Nat.{div-add-mod', one_shl}
 use Rattle.std.specs.List.{AllByRecursion}
 use Rattle.tower_laws.specs.Tower.{mul}
 use Rattle.cube_laws.specs.Extension.{bits_of, eq_points}
@@ -12,7 +12,7 @@ use Rattle.list_laws.proofs.Lists.{drop_here}
 use Rattle.list_laws.proofs.Powers.{power_bound}
 use Rattle.sumcheck.specs.declared.column_claim.ColumnClaim.{ColumnClaim}
 use Rattle.table_shape.specs.Placement.{Block, bits_taken, is_block, offset, places_log}
-use Rattle.bit_claim.specs.Bits.{block_in, IsPlaced}
+use Rattle.bit_claim.specs.Bits.{block_in, size_in, IsPlaced}
 use Rattle.bit_claim.proofs.Standing.{held}
 
 -- ---- a column's block
@@ -42,6 +42,18 @@ points_short bs (c ∷ cs) few h =
     let b = h.0.0 in
     let small = log_small c.table c.column bs b h.0.1 few in
     (omega (arith, small, h.0.2), points_short bs cs few h.1)
+
+size_is : (bs : List Block) (c : ColumnClaim) (b : Block) → IsPlaced bs c → block_in c.table c.column bs ≡ Some b → size_in bs c ≡ b.log_bits
+size_is bs c b h e =
+    let found : Some h.0 ≡ Some b = sym h.1 ∙ e in
+    let same : h.0 ≡ b = cc in
+    ap (λ o. unwrap_or (option_map (λ (b : Block). b.level) o) 0 + length c.point) h.1 ∙ h.2 ∙ ap (λ (x : Block). x.log_bits) same
+
+pub part_small : (bs : List Block) (c : ColumnClaim) (b : Block) → IsPlaced bs c → block_in c.table c.column bs ≡ Some b → bits_taken bs ≤ 2 ^ 24 → offset c.table c.column bs / 2 ^ b.log_bits * 2 ^ size_in bs c + 2 ^ size_in bs c ≤ 2 ^ 24
+part_small bs c b h e few =
+    let within = block_within c.table c.column bs b e in
+    let first = div-add-mod' (offset c.table c.column bs) (2 ^ b.log_bits) in
+    subst (λ n. offset c.table c.column bs / 2 ^ b.log_bits * 2 ^ n + 2 ^ n ≤ 2 ^ 24) (sym (size_is bs c b h e)) (omega (arith, within, first, few))
 
 -- ---- generators
 pub generator_fits : (k : ℕ) → k < 7 → (2 ^ k < 128) × (1 * 2 ^ k % 18446744073709551616 ≡ 2 ^ k)

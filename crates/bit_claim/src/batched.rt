@@ -69,9 +69,16 @@ impl Batched {
     }
 
     pub fn claims(&self) -> &[ColumnClaim]
-        ensures { result.now ≡ self.now.claims }
+        ensures claims { result.now ≡ self.now.claims }
+        ensures placed { AllByRecursion (IsPlaced self.now.blocks) result.now }
     {
         self.claims.as_slice()
+    }
+
+    pub fn lambda(&self) -> B128
+        ensures { result ≡ self.now.lambda }
+    {
+        self.lambda
     }
 
     /// The sum of lambda ^ j times value j.

@@ -2,6 +2,7 @@
 //! columns as one claim on that table.
 #![tactic(auto)]
 
+mod batch_table;
 mod batched;
 mod bit_value;
 mod bit_walk;

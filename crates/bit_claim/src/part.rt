@@ -1,6 +1,6 @@
 //! Where the bits of a claim's column stand.
 
-ghost use Rattle.std.specs.Prelude.{◌≡◌, ◌≤◌, ◌<◌, ◌+◌, ◌^◌, drop, length, take};
+ghost use Rattle.std.specs.Prelude.{◌≡◌, ◌≤◌, ◌<◌, ◌+◌, ◌*◌, ◌^◌, drop, length, take};
 ghost use Rattle.cube_laws.specs.Extension.{bits_of, eq_points};
 ghost use Rattle.column_laws.specs.Basis.{basis_at};
 ghost use Rattle.bit_claim.specs.Bits.{above_in, claim_at, level_in, part_in, size_in, IsPlaced};
@@ -25,6 +25,7 @@ impl Part {
         requires { IsPlaced placement.now claim.now }
         ensures part { result ≡ record { level = level_in placement.now claim.now; above = above_in placement.now claim.now; index = part_in placement.now claim.now } }
         ensures low { result.level ≤ 7 }
+        ensures small { result.index * 2 ^ size_in placement.now claim.now + 2 ^ size_in placement.now claim.now ≤ 2 ^ 24 }
     {
         let Some(block) = placement.block_in(claim.table, claim.column) else {
             unreachable!();
