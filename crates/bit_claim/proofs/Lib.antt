@@ -8,3 +8,4 @@ pub mod BatchLaws
 pub mod PartSteps
 pub mod WalkSteps
 pub mod TablePlaces
+pub mod ProverSteps

@@ -1,5 +1,5 @@
 -- The numbers of a claim's table: those of its part, and 0 elsewhere.
-use Rattle.std.proofs.Common.{◌≡◌, ◌≢◌, ℕ, zero, suc, ◌+◌, ◌-◌, ◌*◌, ◌/◌, ◌%◌, ◌^◌, ◌<◌, ◌≤◌, ◌==◌, Bool, true, false, List, [], ◌∷◌, length, map, drop, get_or, Some, bit_xor, refl, sym, ap, subst, ◌∙◌, inl, inr, ◌⊎◌, option_map, unwrap_or, arith}
+use Rattle.std.proofs.Common.{◌≡◌, ◌≢◌, ℕ, zero, suc, ◌+◌, ◌-◌, ◌*◌, ◌/◌, ◌%◌, ◌^◌, ◌<◌, ◌≤◌, ◌==◌, true, false, List, [], ◌∷◌, length, map, drop, get_or, bit_xor, refl, sym, ap, subst, ◌∙◌, inl, inr, ◌⊎◌, option_map, unwrap_or, arith}
 use Rattle.std.proofs.lemmas.Bool.{cases_lt, eqb-true, eq-eqb}
 use Rattle.std.proofs.lemmas.List.{drop_all, ext_get_or, get_or_past, get_or-set_other, get_or-set_same, length-map, length-set}
 use Rattle.std.proofs.lemmas.Nat.{div-add-mod', pow-add}
@@ -28,8 +28,8 @@ use Rattle.cube_mle.proofs.Doubling.{weights_are}
 use Rattle.list_laws.proofs.Lists.{drop_here}
 use Rattle.list_laws.proofs.Powers.{power_bound}
 use Rattle.sumcheck.specs.declared.column_claim.ColumnClaim.{ColumnClaim}
-use Rattle.table_shape.specs.Placement.{Block, bits_taken, offset, places_log}
-use Rattle.bit_claim.specs.Bits.{above_in, block_in, claim_table, level_in, part_in, size_in, IsPlaced}
+use Rattle.table_shape.specs.Placement.{Block, offset, places_log}
+use Rattle.bit_claim.specs.Bits.{above_in, claim_table, level_in, part_in, size_in, IsPlaced}
 use Rattle.bit_claim.proofs.PartSteps.{block_within, log_within}
 use Rattle.bit_claim.proofs.Standing.{held}
 

@@ -4,3 +4,4 @@ pub mod Bits
 pub mod Batching
 pub mod Filled
 pub mod BitWalk
+pub mod BatchFollowing

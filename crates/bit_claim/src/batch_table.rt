@@ -18,7 +18,9 @@ use tower_field::{B128, Tower};
 /// The sum of lambda ^ j times the table of claim j. For each claim only its part of the table is
 /// visited.
 pub fn batch_table(alloc: Global, batch: &Batched) -> Result<Vec<B128>, NoMemory>
-    ensures { IfOk result (λ cells. cells.items ≡ batched (2 ^ places_log batch.now.blocks) batch.now.lambda (map (claim_table batch.now.blocks) batch.now.claims)) }
+    ensures few { IfOk result (λ _. places_log batch.now.blocks ≤ 32) }
+    ensures long { IfOk result (λ cells. length cells.items ≡ 2 ^ places_log batch.now.blocks) }
+    ensures table { IfOk result (λ cells. cells.items ≡ batched (2 ^ places_log batch.now.blocks) batch.now.lambda (map (claim_table batch.now.blocks) batch.now.claims)) }
 {
     let placement = batch.placement();
     let claims = batch.claims();

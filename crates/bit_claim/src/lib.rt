@@ -4,6 +4,7 @@
 
 mod batch_table;
 mod batched;
+mod bit_prover;
 mod bit_value;
 mod bit_walk;
 mod laws;
@@ -12,6 +13,7 @@ mod part;
 mod placement;
 mod room;
 
+pub use bit_prover::BitProver;
 pub use bit_walk::BitWalk;
 pub use laws::{batches_keep_truth, blocks_stand_apart};
 pub use no_memory::NoMemory;

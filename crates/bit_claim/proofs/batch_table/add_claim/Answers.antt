@@ -1,6 +1,4 @@
-use Rattle.std.proofs.Common.{◌≡◌, ℕ, ◌+◌, ◌*◌, ◌%◌, ◌^◌, ◌≤◌, List, length, map, refl, ◌∙◌, ap, subst, sym, arith}
-use Rattle.tower_laws.specs.Tower.{mul}
-use Rattle.cube_laws.specs.Extension.{weights}
+use Rattle.std.proofs.Common.{◌≡◌, ◌*◌, ◌%◌, ◌^◌, length, ◌∙◌, ap, subst, arith}
 use Rattle.bit_claim.specs.declared.part.Part.{Part}
 use Rattle.bit_claim.specs.Bits.{level_in, part_in, size_in}
 use Rattle.bit_claim.proofs.TablePlaces.{Cells, bits_long, cells_of, claim_added, first_is, part_fits, product_at, weights_scaled}

@@ -1,4 +1,4 @@
-use Rattle.std.proofs.Common.{◌≡◌, ℕ, ◌*◌, ◌%◌, ◌^◌, ◌<◌, ◌≤◌, List, length, bit_xor, get_or, refl, ◌∙◌, ap, subst, sym, arith}
+use Rattle.std.proofs.Common.{◌≡◌, ℕ, ◌*◌, ◌%◌, ◌^◌, ◌<◌, ◌≤◌, List, length, bit_xor, get_or, ◌∙◌, ap, subst, arith}
 use Rattle.std.proofs.lemmas.Nat.{one_shl}
 use Rattle.std.specs.List.{AllByRecursion}
 use Rattle.tower_laws.specs.Tower.{mul}
@@ -34,8 +34,8 @@ loop-i-preserved c =
           c.loop-i.invariant.left;
     }
 
-pub returns : goal.returns
-returns c =
+pub returns-clause-table : goal.returns-clause-table
+returns-clause-table c =
     let claims = c.claims-claims.ensures.claims in
     batch_done c.args.batch.now.blocks c.args.batch.now.claims c.args.batch.now.lambda c.loop-i.i c.loop-i.factor c.loop-i.cells.items (subst (λ (cs : List ColumnClaim). length cs ≤ c.loop-i.i) claims c.loop-i-test.false)
     c.loop-i.invariant.long (subst (AllByRecursion (IsPlaced c.args.batch.now.blocks)) claims c.claims-claims.ensures.placed) c.loop-i.invariant.left

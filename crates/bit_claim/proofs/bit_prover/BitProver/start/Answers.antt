@@ -1,0 +1,14 @@
+use Rattle.std.proofs.Common.{◌≡◌, ◌∙◌, Option, Some, None, ap, refl, subst, sym}
+use Rattle.sumcheck.specs.Proving.{Proving}
+use Rattle.sumcheck.specs.declared.summand.Pair.{Pair}
+use Rattle.bit_claim.specs.declared.bit_prover.BitProver.{BitProver}
+use Rattle.bit_claim.specs.BatchFollowing.{FollowsSum}
+use Rattle.bit_claim.proofs.ProverSteps.{begun, none_of, start_follows}
+use Rattle.bit_claim.proofs.bit_prover.BitProver.start.Goals as goal
+
+pub returns-clause-follows : goal.returns-clause-follows
+returns-clause-follows c = λ F s h w.
+    let p : BitProver = c.args.self.now in
+    let none : p.sum ≡ None = none_of p.sum (sym c.is_some.ensures ∙ c.if-is_some.false) in
+    start_follows p (record p { bits = c.replace-bits.new.dest; sum = Some c.in_ok-sum.sum }) c.in_ok-sum.sum refl (c.in_ok-sum.ensures.sum ∙ ap (λ v. begun p.batched v.items) c.replace-bits.ensures.value) c.in_ok-sum.ensures.long F s
+    (subst (λ (o : Option (Proving Pair)). FollowsSum p o F s) none h) w
