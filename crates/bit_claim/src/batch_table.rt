@@ -24,7 +24,7 @@ pub fn batch_table(alloc: Global, batch: &Batched) -> Result<Vec<B128>, NoMemory
 {
     let placement = batch.placement();
     let claims = batch.claims();
-    let mut cells = zero_table(alloc, 1usize << placement.log_bits())?;
+    let mut cells = zero_table(alloc, 1usize << placement.vars())?;
     let mut factor = B128::ONE;
     for i in 0..claims.len() {
         add_claim(alloc, placement, &claims[i], factor, &mut cells)?;

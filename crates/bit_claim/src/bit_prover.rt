@@ -86,7 +86,7 @@ impl BitProver {
             room: Room::begin(alloc, claims)?,
             bits: Vec::from_slice(alloc, bits)?,
             sum: None,
-            draws: Vec::with_capacity(alloc, placement.log_bits() as usize)?,
+            draws: Vec::with_capacity(alloc, placement.vars() as usize)?,
             value: B128::ZERO,
         })
     }

@@ -57,7 +57,7 @@ impl BitWalk {
             alloc,
             stage: Stage::Waiting,
             batched: Batched::none(alloc, placement.copy(alloc)?),
-            rounds: SumRounds::begin(alloc, placement.log_bits(), 2)?,
+            rounds: SumRounds::begin(alloc, placement.vars(), 2)?,
             closed: None,
             room: Room::begin(alloc, claims)?,
         })

@@ -32,7 +32,7 @@ impl Part {
         };
         Part {
             level: block.level,
-            above: placement.log_bits() - block.log_bits,
+            above: placement.vars() - block.log_bits,
             index: placement.offset(claim.table, claim.column) >> block.log_bits,
         }
     }

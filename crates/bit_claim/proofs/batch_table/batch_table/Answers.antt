@@ -11,10 +11,10 @@ use Rattle.bit_claim.proofs.batch_table.batch_table.Goals as goal
 
 pub loop-i-init : goal.loop-i-init
 loop-i-init c =
-    let n = 1 * 2 ^ c.log_bits.result % 18446744073709551616 in
-    let small = c.log_bits.ensures.few in
-    let size : n ≡ 2 ^ c.log_bits.result = one_shl c.log_bits.result 64 (omega (arith, small)) in
-    let log : c.log_bits.result ≡ places_log c.args.batch.now.blocks = c.log_bits.ensures.log ∙ ap places_log c.placement-placement.ensures in
+    let n = 1 * 2 ^ c.vars.result % 18446744073709551616 in
+    let small = c.vars.ensures.few in
+    let size : n ≡ 2 ^ c.vars.result = one_shl c.vars.result 64 (omega (arith, small)) in
+    let log : c.vars.result ≡ places_log c.args.batch.now.blocks = c.vars.ensures.log ∙ ap places_log c.placement-placement.ensures in
     record {
       long = ap length c.in_ok-cells.ensures ∙ length-tabulate n (λ p. 0) ∙ size ∙ ap (λ l. 2 ^ l) log;
       left = batch_start c.args.batch.now.blocks c.args.batch.now.claims c.args.batch.now.lambda n c.in_ok-cells.cells.items c.in_ok-cells.ensures;

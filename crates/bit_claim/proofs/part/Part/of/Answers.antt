@@ -7,7 +7,7 @@ use Rattle.bit_claim.proofs.part.Part.of.Goals as goal
 pub overflow_sub-result : goal.overflow_sub-result
 overflow_sub-result c =
     let h = log_within c.args.claim.now.table c.args.claim.now.column c.args.placement.now (seen c.in-Some.block) (sym c.in-Some.ensures.block) in
-    omega (arith, h, c.log_bits.ensures)
+    omega (arith, h, c.vars.ensures)
 
 pub overflow_shr-result : goal.overflow_shr-result
 overflow_shr-result c =
