@@ -9,3 +9,4 @@ pub mod PartSteps
 pub mod WalkSteps
 pub mod TablePlaces
 pub mod ProverSteps
+pub mod FilledBits

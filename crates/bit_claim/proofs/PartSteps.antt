@@ -43,7 +43,7 @@ points_short bs (c ∷ cs) few h =
     let small = log_small c.table c.column bs b h.0.1 few in
     (omega (arith, small, h.0.2), points_short bs cs few h.1)
 
-size_is : (bs : List Block) (c : ColumnClaim) (b : Block) → IsPlaced bs c → block_in c.table c.column bs ≡ Some b → size_in bs c ≡ b.log_bits
+pub size_is : (bs : List Block) (c : ColumnClaim) (b : Block) → IsPlaced bs c → block_in c.table c.column bs ≡ Some b → size_in bs c ≡ b.log_bits
 size_is bs c b h e =
     let found : Some h.0 ≡ Some b = sym h.1 ∙ e in
     let same : h.0 ≡ b = cc in
