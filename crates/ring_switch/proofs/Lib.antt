@@ -1,1 +1,2 @@
 pub mod SwitchLaws
+pub mod TensorSteps

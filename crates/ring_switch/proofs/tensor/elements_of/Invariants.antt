@@ -1,0 +1,6 @@
+use Rattle.std.proofs.Common.{get_or}
+use Rattle.ring_switch.proofs.TensorSteps.{Filled}
+use Rattle.ring_switch.proofs.tensor.elements_of.Given as goal
+
+abbrev pub invariant-loop-u : goal.invariant-loop-u
+invariant-loop-u l = Filled (λ k. get_or l.numbers k 0) l.u l.elements
