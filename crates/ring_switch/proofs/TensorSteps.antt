@@ -11,10 +11,13 @@ use Rattle.cube_laws.specs.Sums.{product_to, sum_to, tabulate}
 use Rattle.cube_laws.specs.Extension.{bit, dot, eq, extension, weights}
 use Rattle.cube_laws.proofs.Positions.{sum_to-more}
 use Rattle.cube_laws.proofs.Tabulate.{entries, map-tabulate, sums-tabulate, tabulated}
-use Rattle.cube_laws.proofs.Weights.{by_weights_is, product_to-same}
+use Rattle.cube_laws.proofs.Weights.{by_weights_is, product_to-same, tabulate-same}
 use Rattle.sumcheck.proofs.RowSteps.{opened_at}
+use Rattle.tensor_laws.specs.Tensor.{row}
+use Rattle.tensor_laws.proofs.Crossing.{rows_at}
 use Rattle.tensor_laws.specs.Switch.{combined, scaled, tensor_eq, transposed}
-use Rattle.tensor_laws.proofs.Switching.{combined_at, transposed_is}
+use Rattle.ring_switch.proofs.Padding.{get_or-padded, length-padded, padded, padded-fit, row-padded}
+use Rattle.tensor_laws.proofs.Switching.{combined_is, tensor_rows, transposed_is}
 
 -- ---- 128 numbers, one by one
 -- the first u of 128 numbers are those of f
@@ -100,30 +103,53 @@ all_weighed values z p total e l h =
     h ∙ ap (λ n. sum_to n (λ p. mul (get_or values p 0) (eq z p))) (e ∙ ap (λ n. 2 ^ n) (sym l)) ∙ sym (by_weights_is values z)
 
 -- ---- the rows of eq, coordinate by coordinate
-pub record RowsFrom (high at : List ℕ) (k : ℕ) (rows : List ℕ) : Type 0 where
-  pub within : k ≤ length high
-  pub is : rows ≡ tensor_eq 128 (drop k high) (drop k at)
+abbrev filled : ℕ → List ℕ → List ℕ
+filled n z = padded (n - length z) z
 
-opened : (xs : List ℕ) (k x : ℕ) → 0 < k → k ≤ length xs → x ≡ get_or xs (k - 1) x → drop (k - 1) xs ≡ x ∷ drop k xs
-opened xs k x s l e = let up : k - 1 + 1 ≡ k = omega arith in opened_at xs (k - 1) x e (omega arith) ∙ ap (λ n. x ∷ drop n xs) up
+length-filled : (n : ℕ) (z : List ℕ) → length z ≤ n → length (filled n z) ≡ n
+length-filled n z l = length-padded (n - length z) z ∙ (let e : length z + (n - length z) ≡ n = omega arith in e)
 
-pub no_rows : (high at rows : List ℕ) → length high ≡ length at → rows ≡ tabulate 128 (bit 1) → RowsFrom high at (length high) rows
-no_rows high at rows l e = record { within = omega arith; is = e ∙ ap (λ w. tensor_eq 128 w (drop (length high) at)) (sym (drop_all (length high) high (omega arith))) }
+-- the rows of eq of the coordinates from k on, both points having n of them
+pub record RowsFrom (high at : List ℕ) (n k : ℕ) (rows : List ℕ) : Type 0 where
+  pub within : k ≤ n
+  pub high_short : length high ≤ n
+  pub at_short : length at ≤ n
+  pub is : rows ≡ tensor_eq 128 (drop k (filled n high)) (drop k (filled n at))
 
-pub more_rows : (high at rows zeros ones next : List ℕ) (k h a : ℕ) → length high ≡ length at → 0 < k → h ≡ get_or high (k - 1) h → a ≡ get_or at (k - 1) a → RowsFrom high at k rows
-    → zeros ≡ scaled 128 (bit_xor 1 h) (bit_xor 1 a) rows → ones ≡ scaled 128 h a rows → next ≡ sums zeros ones → RowsFrom high at (k - 1) next
-more_rows high at rows zeros ones next k h a l s eh ea r ez eo en =
+opened : (z : List ℕ) (n k x : ℕ) → 0 < k → k ≤ n → length z ≤ n → x ≡ get_or z (k - 1) 0 → drop (k - 1) (filled n z) ≡ x ∷ drop k (filled n z)
+opened z n k x s l w e =
+    let up : k - 1 + 1 ≡ k = omega arith in
+    let long = length-filled n z w in
+    let at : x ≡ get_or (filled n z) (k - 1) x = e ∙ sym (get_or-padded (n - length z) z (k - 1)) ∙ get_or_default (filled n z) (k - 1) 0 x (omega arith) in
+    opened_at (filled n z) (k - 1) x at (omega arith) ∙ ap (λ j. x ∷ drop j (filled n z)) up
+
+pub no_rows : (high at rows : List ℕ) (n : ℕ) → length high ≤ n → length at ≤ n → rows ≡ tabulate 128 (bit 1) → RowsFrom high at n n rows
+no_rows high at rows n l m e =
+    let long = length-filled n high l in
+    record { within = omega arith; high_short = l; at_short = m; is = e ∙ ap (λ w. tensor_eq 128 w (drop n (filled n at))) (sym (drop_all n (filled n high) (omega arith))) }
+
+pub more_rows : (high at rows zeros ones next : List ℕ) (n k h a : ℕ) → 0 < k → h ≡ get_or high (k - 1) 0 → a ≡ get_or at (k - 1) 0 → RowsFrom high at n k rows
+    → zeros ≡ scaled 128 (bit_xor 1 h) (bit_xor 1 a) rows → ones ≡ scaled 128 h a rows → next ≡ sums zeros ones → RowsFrom high at n (k - 1) next
+more_rows high at rows zeros ones next n k h a s eh ea r ez eo en =
     let w = r.within in
     record {
       within = omega arith;
+      high_short = r.high_short;
+      at_short = r.at_short;
       is = en ∙ (λ i. sums (ez i) (eo i)) ∙ ap (λ t. sums (scaled 128 (bit_xor 1 h) (bit_xor 1 a) t) (scaled 128 h a t)) r.is
-          ∙ sym (λ i. tensor_eq 128 (opened high k h s w eh i) (opened at k a s (omega arith) ea i));
+          ∙ sym (λ i. tensor_eq 128 (opened high n k h s w r.high_short eh i) (opened at n k a s w r.at_short ea i));
     }
 
-pub all_rows : (high at rows : List ℕ) (k : ℕ) → k ≡ 0 → RowsFrom high at k rows → rows ≡ tensor_eq 128 high at
-all_rows high at rows k e r = r.is ∙ ap (λ k. tensor_eq 128 (drop k high) (drop k at)) e
+pub all_rows : (high at rows : List ℕ) (n k : ℕ) → k ≡ 0 → AllFit 7 high → AllFit 7 at → RowsFrom high at n k rows → rows ≡ tabulate 128 (row (weights high) (weights at))
+all_rows high at rows n k e fh fa r =
+    r.is ∙ ap (λ k. tensor_eq 128 (drop k (filled n high)) (drop k (filled n at))) e
+    ∙ tensor_rows 7 (filled n high) (filled n at) (length-filled n high r.high_short ∙ sym (length-filled n at r.at_short)) (padded-fit (n - length high) high fh) (padded-fit (n - length at) at fa)
+    ∙ tabulate-same 128 (row (weights (filled n high)) (weights (filled n at))) (row (weights high) (weights at)) (λ u l. row-padded (n - length high) (n - length at) high at u)
 
-pub at_point : (high at combine rows : List ℕ) (v : ℕ) → length high ≡ length at → length combine ≡ 7 → AllFit 7 high → AllFit 7 at → rows ≡ tensor_eq 128 high at → v ≡ dot rows (weights combine) → v ≡ extension (combined high combine) at
-at_point high at combine rows v l n fh fa er ev =
-    ev ∙ ap (λ t. dot t (weights combine)) (er ∙ ap (λ n. tensor_eq (2 ^ n) high at) (sym n))
-    ∙ sym (combined_at high at combine l (subst (λ n. AllFit n high) (sym n) fh) (subst (λ n. AllFit n at) (sym n) fa))
+-- the sum's table at a point
+pub at_point : (high at combine rows : List ℕ) (v : ℕ) → length combine ≡ 7 → rows ≡ tabulate 128 (row (weights high) (weights at)) → v ≡ dot rows (weights combine) → v ≡ extension (combined high combine) at
+at_point high at combine rows v n er ev =
+    ev ∙ ap (λ t. dot t (weights combine)) (er ∙ ap (λ n. tabulate (2 ^ n) (row (weights high) (weights at))) (sym n))
+    ∙ rows_at (2 ^ length combine) (weights high) (weights at) (weights combine)
+    ∙ ap (λ a. dot a (weights at)) (sym (combined_is high combine))
+    ∙ by_weights_is (combined high combine) at

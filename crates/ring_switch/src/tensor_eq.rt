@@ -1,11 +1,12 @@
 //! The sum's table at a point.
 
-ghost use Rattle.std.specs.Prelude.{◌≡◌, length, map};
+ghost use Rattle.std.specs.Prelude.{◌≡◌, map, slice_index};
 ghost use Rattle.tower_laws.specs.Tower.{mul};
 ghost use Rattle.tower_laws.specs.Lists.{sums};
-ghost use Rattle.cube_laws.specs.Extension.{bit, dot, extension, weights};
+ghost use Rattle.cube_laws.specs.Extension.{bit, extension, weights};
 ghost use Rattle.cube_laws.specs.Sums.{tabulate};
-ghost use Rattle.tensor_laws.specs.Switch.{combined, scaled, tensor_eq};
+ghost use Rattle.tensor_laws.specs.Tensor.{row};
+ghost use Rattle.tensor_laws.specs.Switch.{combined, scaled};
 
 use crate::tensor::read_across;
 use crate::weighing::under_weights;
@@ -50,16 +51,30 @@ fn unit() -> [B128; 128]
     rows
 }
 
-/// The rows of the sum over w of eq(high, w) ⊗ eq(at, w).
-fn rows_of_eq(high: &[B128], at: &[B128]) -> [B128; 128]
-    requires { length high.now ≡ length at.now }
-    ensures { result ≡ tensor_eq 128 high.now at.now }
+/// A coordinate of a point, and 0 past the last.
+fn coordinate(point: &[B128], k: usize) -> B128
+    ensures { result ≡ slice_index point.now k }
 {
+    if k < point.len() {
+        point[k]
+    } else {
+        B128::ZERO
+    }
+}
+
+/// The rows of the sum over w of eq(high, w) ⊗ eq(at, w), coordinate by coordinate.
+fn rows_of_eq(high: &[B128], at: &[B128]) -> [B128; 128]
+    ensures { result ≡ tabulate 128 (row (weights high.now) (weights at.now)) }
+{
+    numbers_fit(high);
+    numbers_fit(at);
+    let count = high.len().max(at.len());
     let mut rows = unit();
-    let mut k = high.len();
+    let mut k = count;
     while k > 0 {
         k -= 1;
-        let (h, a) = (high[k], at[k]);
+        let h = coordinate(high, k);
+        let a = coordinate(at, k);
         let at_zero = scaled(B128::ONE + h, B128::ONE + a, &rows);
         let at_one = scaled(h, a, &rows);
         rows = sum(&at_zero, &at_one);
@@ -70,10 +85,7 @@ fn rows_of_eq(high: &[B128], at: &[B128]) -> [B128; 128]
 /// The extension at a point of the table that the weights of the draws combine out of eq of the high
 /// point. It takes no memory.
 pub fn tensor_eq_at(high: &[B128], at: &[B128], combine: &[B128; 7]) -> B128
-    requires { length high.now ≡ length at.now }
     ensures { result ≡ extension (combined high.now combine.now) at.now }
 {
-    numbers_fit(high);
-    numbers_fit(at);
     under_weights(&rows_of_eq(high, at), combine)
 }
