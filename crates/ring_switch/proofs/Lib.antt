@@ -1,3 +1,4 @@
 pub mod SwitchLaws
 pub mod Padding
 pub mod TensorSteps
+pub mod SwitchSteps

@@ -1,1 +1,2 @@
 pub mod Switching
+pub mod SwitchFields

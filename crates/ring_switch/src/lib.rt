@@ -3,10 +3,18 @@
 #![tactic(auto)]
 
 mod laws;
+mod no_memory;
+mod packed_value;
+mod switch_walk;
+mod switched;
 mod tensor;
 mod tensor_eq;
 mod weighing;
 
 pub use laws::switchings_keep_truth;
+pub use no_memory::NoMemory;
+pub use packed_value::PackedValue;
+pub use switch_walk::SwitchWalk;
+pub use switched::Switched;
 pub use tensor::Tensor;
 pub use tensor_eq::tensor_eq_at;
