@@ -2,3 +2,5 @@ pub mod SwitchLaws
 pub mod Padding
 pub mod TensorSteps
 pub mod SwitchSteps
+pub mod CombiningSteps
+pub mod ProverSteps

@@ -37,7 +37,7 @@ pub where_equal : (x s : ℕ) (b : Bool) → b ≡ not (eqb x s) → b ≡ false
 where_equal x s b h e = equal_sides (eqb x s) (record { check = Tensor; left = x; right = s }) (sym h ∙ e)
 
 -- ---- a draw of a coordinate
-set_last : (xs : List ℕ) (k v : ℕ) → k < length xs → take (suc k) (set xs k v) ≡ take k xs ++ v ∷ []
+pub set_last : (xs : List ℕ) (k v : ℕ) → k < length xs → take (suc k) (set xs k v) ≡ take k xs ++ v ∷ []
 set_last [] k v l = absurd (omega arith)
 set_last (x ∷ xs) zero v l = refl
 set_last (x ∷ xs) (suc k) v l = ap (λ w. x ∷ w) (set_last xs k v (omega arith))

@@ -2,9 +2,12 @@
 
 #![tactic(auto)]
 
+mod combining;
+mod ending;
 mod laws;
 mod no_memory;
 mod packed_value;
+mod switch_prover;
 mod switch_walk;
 mod switched;
 mod tensor;
@@ -14,6 +17,7 @@ mod weighing;
 pub use laws::switchings_keep_truth;
 pub use no_memory::NoMemory;
 pub use packed_value::PackedValue;
+pub use switch_prover::SwitchProver;
 pub use switch_walk::SwitchWalk;
 pub use switched::Switched;
 pub use tensor::Tensor;

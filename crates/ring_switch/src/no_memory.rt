@@ -17,3 +17,15 @@ impl From<sumcheck::NoMemory> for NoMemory {
         NoMemory
     }
 }
+
+impl From<cube_mle::NoMemory> for NoMemory {
+    fn from(_: cube_mle::NoMemory) -> NoMemory {
+        NoMemory
+    }
+}
+
+impl From<packed_words::NoMemory> for NoMemory {
+    fn from(_: packed_words::NoMemory) -> NoMemory {
+        NoMemory
+    }
+}
