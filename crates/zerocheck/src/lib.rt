@@ -14,6 +14,7 @@ mod zero_prover;
 mod zero_walk;
 mod zeroed;
 
+pub use expressions::names;
 pub use given::has_lists;
 pub use group::{Group, has_group};
 pub use laws::zeros_keep_truth;
