@@ -1,0 +1,4 @@
+pub mod Plan
+pub mod Sizes
+pub mod PlanParts
+pub mod Small
