@@ -14,7 +14,7 @@ use Rattle.table_shape.specs.Fits.{FlushFits, HasKind, IsFormOf, IsPackOf, IsShi
 use Rattle.table_shape.specs.Parts.{ShapeParts}
 use Rattle.proof_plan.specs.Small.{ColumnIsSmall, ConstraintIsSmall, FlushIsSmall, FormIsSmall, KindIsSmall, TableIsSmall}
 
-all_from : {X : Type 0} (P : X → Type 0) (xs : List X) → ((i : ℕ) (x : X) → slice_get xs i ≡ Some x → P x) → AllByRecursion P xs
+pub all_from : {X : Type 0} (P : X → Type 0) (xs : List X) → ((i : ℕ) (x : X) → slice_get xs i ≡ Some x → P x) → AllByRecursion P xs
 all_from P [] h = tt
 all_from P (x ∷ xs) h = (h 0 x refl, all_from P xs (λ i y e. h (suc i) y e))
 

@@ -1,4 +1,5 @@
 pub mod Plan
 pub mod Sizes
 pub mod PlanParts
+pub mod PlanFits
 pub mod Small
