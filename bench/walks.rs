@@ -1,5 +1,6 @@
 //! The work of `crates/walk_bench` in plain Rust, by the same forms: three claims on a column merged,
-//! a claim on a shifted column, and the carries of an adder, round by round with the same draws.
+//! a claim on a shifted column, the carries of an adder, and the product of a flush layer by layer,
+//! round by round with the same draws.
 //!
 //! `walks WORK LOG` prints the same number as the program of that crate.
 
@@ -156,12 +157,51 @@ fn zero(log: u32) -> u128 {
     finals[2..].iter().fold(0, |sum, value| sum ^ value)
 }
 
+/// The leaf of a row, where the step and the selector are these.
+fn leaf(step: u128, selector: u128, tuple: &[u128], alpha: u128, gamma: u128) -> u128 {
+    let collapsed = tuple.iter().rev().fold(0, |sum, &value| value ^ alpha.times(sum));
+    step.times(selector).times(gamma ^ collapsed ^ 1) ^ 1
+}
+
+fn product(log: u32) -> u128 {
+    let [a, b] = [0, 1 << 32].map(|k| (0..1 << log).map(|p| element(k + p)).collect::<Vec<_>>());
+    let (alpha, gamma) = (element(100), element(200));
+    let leaves = (0..1 << log).map(|p: usize| leaf(1, 1, &[a[p], b[p]], alpha, gamma));
+    let mut layers = vec![leaves.collect::<Vec<_>>()];
+    for layer in (0..log).rev() {
+        let last = &layers[layers.len() - 1];
+        let half = 1 << layer;
+        layers.push((0..half).map(|p| last[p].times(last[p + half])).collect());
+    }
+    let mut claim = layers.pop().unwrap()[0];
+    let mut point = vec![];
+    // the draw that comes next but for the message before it
+    let mut draw: u128 = 8;
+    for layer in 0..log {
+        let below = layers.pop().unwrap();
+        let (low, high) = below.split_at(1 << layer);
+        let mut tables = [eq_table(&point), low.to_vec(), high.to_vec()];
+        let finals = rounds(&mut tables, 3, claim, draw, |row| row[0].times(row[1].times(row[2])));
+        point = (0..layer as u128).map(|k| draw + 2 * k).collect();
+        draw += 2 * layer as u128;
+        claim = finals[1].times(1 ^ draw) ^ finals[2].times(draw);
+        point.push(draw);
+        draw += 2;
+    }
+    let mut tables = [eq_table(&point), vec![1; 1 << log], vec![1; 1 << log], a, b];
+    let finals = rounds(&mut tables, 4, claim, draw, |row| {
+        row[0].times(leaf(row[1], row[2], &row[3..], alpha, gamma))
+    });
+    finals[3] ^ finals[4]
+}
+
 fn main() {
     let words: Vec<String> = std::env::args().collect();
     let log = words[2].parse().unwrap();
     let value = match words[1].as_str() {
         "merge" => merge(log),
         "shift" => shift(log),
+        "product" => product(log),
         _ => zero(log),
     };
     println!("{value}");

@@ -1,12 +1,17 @@
 //! Walks beside their provers, for timing. By the first word, over 2 ^ N values: three claims on a
-//! column merged (`merge`), a claim on a column shifted within blocks of 32 (`shift`), or the carries
-//! of an adder of 32 bits (`zero`). Prints the sum of the last message.
+//! column merged (`merge`), a claim on a column shifted within blocks of 32 (`shift`), the carries
+//! of an adder of 32 bits (`zero`), or the product of a flush of 2 ^ N rows (`product`). Prints the
+//! sum of the last message.
 
 #![tactic(auto)]
 
-ghost use Rattle.std.specs.Prelude.{◌≡◌, ◌≤◌, ◌^◌, length, true, IfOk, IsSome, Some};
+ghost use Rattle.std.specs.Prelude.{◌≡◌, ◌≤◌, ◌^◌, length, true, IfOk, IsSome, IsTrue, Some};
 ghost use Rattle.sumcheck.specs.Machine.{Filling};
 ghost use Rattle.table_shape.specs.Limits.{max_rows};
+ghost use Rattle.table_shape.specs.declared.shape.FlushShape.{FlushShape as Flush};
+ghost use Rattle.channel_products.specs.DescentFields.{flush_in};
+ghost use Rattle.channel_products.specs.DescentProver.{FollowsProduct};
+ghost use Rattle.channel_products.specs.Given.{FlushIsThere};
 ghost use Rattle.eval_reduce.specs.declared.shifting.Shifting.{Shifting};
 ghost use Rattle.eval_reduce.specs.Following.{Follows};
 ghost use Rattle.eval_reduce.specs.Merge.{AllOn};
@@ -17,6 +22,7 @@ ghost use Rattle.zerocheck.specs.Given.{AreThere};
 ghost use Rattle.zerocheck.specs.Group.{Group as Constraints, group_of};
 ghost use Rattle.zerocheck.specs.ZeroProver.{FollowsZero};
 
+use channel_products::{ProductProver, ProductWalk, collapse, leaf};
 use cube_mle::mle_at;
 use eval_reduce::{MergeProver, MergeWalk, ShiftProver, ShiftWalk};
 use sqlite_items::at;
@@ -54,13 +60,14 @@ fn bit(k: u64, seed: u64) -> B128 {
 #[derive(Clone, Copy, PartialEq, Eq, Debug)]
 struct Lack;
 
-fn column(alloc: Global, log: u32) -> Result<Vec<B128>, Lack>
+/// Elements `first`, `first` + 1, ..
+fn column(alloc: Global, log: u32, first: u64) -> Result<Vec<B128>, Lack>
     requires { log ≤ 20 }
     ensures { IfOk result (λ values. length values.items ≡ 2 ^ log) }
 {
     let mut values: Vec<B128> = Vec::new(alloc);
     'values: for p in 0..1u64 << log {
-        if values.push(element(p)).is_err() {
+        if values.push(element(first.wrapping_add(p))).is_err() {
             return Err(Lack);
         }
     }
@@ -167,7 +174,7 @@ fn begin_merge(
 fn merged(alloc: Global, log: u32) -> Result<B128, Lack>
     requires { log ≤ 20 }
 {
-    let column = column(alloc, log)?;
+    let column = column(alloc, log, 0)?;
     let column = column.as_slice();
     let claims = [
         claim(alloc, 5, column, log, 100)?,
@@ -183,6 +190,9 @@ const SHIFTED: &[u8] = b"table t { column a : b1 x 32; virtual s = shl(a, 5, 1);
 const CARRIES: &[u8] =
     b"table t { column a : b1 x 32; column b : b1 x 32; column c : b1 x 32; column d : b1 x 32; zero z : (a + c) * (b + c) + c + d; }";
 
+const PUSHED: &[u8] =
+    b"channel c : 2; table t { column a : b128; column b : b128; push c (a, b); }";
+
 fn shape_of(alloc: Global, text: &[u8]) -> Result<Shape, Lack> {
     if text.len() > 1000 {
         return Err(Lack);
@@ -196,12 +206,12 @@ fn shape_of(alloc: Global, text: &[u8]) -> Result<Shape, Lack> {
     }
 }
 
-/// How many rows of 32 positions are 2 ^ log positions.
+/// 2 ^ log rows.
 fn rows_of(log: u32) -> u32
-    requires { (5 ≤ log) × (log ≤ 20) }
+    requires { log ≤ 20 }
     ensures { result ≤ max_rows }
 {
-    1u32 << (log - 5)
+    1u32 << log
 }
 
 /// Keeps a list for a column that has none.
@@ -274,7 +284,7 @@ fn carries(alloc: Global, log: u32) -> Result<B128, Lack>
 {
     let shape = shape_of(alloc, CARRIES)?;
     let tables = carry_tables(alloc, log)?;
-    let rows = rows_of(log);
+    let rows = rows_of(log - 5);
     if !has_group(&shape, 0, 5) {
         return Err(Lack);
     }
@@ -352,7 +362,7 @@ fn shifted(alloc: Global, log: u32) -> Result<B128, Lack>
     requires { (5 ≤ log) × (log ≤ 20) }
 {
     let shape = shape_of(alloc, SHIFTED)?;
-    let rows = rows_of(log);
+    let rows = rows_of(log - 5);
     let source = bits(alloc, log, 1)?;
     let list = moved(alloc, source.as_slice())?;
     let claim = claim(alloc, 1, list.as_slice(), log, 100)?;
@@ -365,6 +375,81 @@ fn shifted(alloc: Global, log: u32) -> Result<B128, Lack>
         return Err(Lack);
     }
     let (mut walk, mut prover) = begin_shift(alloc, &shape, rows, &tables, &claim)?;
+    meet_all(alloc, &mut walk, &mut prover)
+}
+
+/// Whether the first table has a flush.
+fn has_flush(shape: &Shape) -> bool
+    ensures { IsTrue result → IsSome (flush_in shape.now.tables 0 0) }
+{
+    match at(shape.tables(), 0) {
+        Some(table) => table.flushes.len() > 0,
+        None => false,
+    }
+}
+
+/// The product of the leaves of tuples of two.
+fn leaves_product(alpha: B128, gamma: B128, a: &[B128], b: &[B128]) -> B128
+    requires { length b.now ≡ length a.now }
+{
+    let mut product = B128::ONE;
+    for p in 0..a.len() {
+        let collapsed = collapse(alpha, &[a[p], b[p]]);
+        product = product * leaf(B128::ONE, B128::ONE, gamma, collapsed);
+    }
+    product
+}
+
+/// The walk of the first flush and its prover, the product claimed.
+fn begin_product<'a>(
+    alloc: Global,
+    shape: &Shape,
+    rows: u32,
+    tables: &'a ColumnTables,
+    alpha: B128,
+    gamma: B128,
+    product: B128,
+) -> Result<(ProductWalk, ProductProver<'a>), Lack>
+    requires some { IsSome (flush_in shape.now.tables 0 0) }
+    requires few { rows ≤ max_rows }
+    requires there { (f : Flush) → flush_in shape.now.tables 0 0 ≡ Some f → FlushIsThere tables.now (record { table = 0; number = 0; rows = rows; shape = f }) }
+    ensures { IfOk result (λ both. (F : Filling) × FollowsProduct both.1 F both.0) }
+{
+    let Ok(mut walk) = ProductWalk::begin(alloc, shape, 0, 0, rows) else {
+        return Err(Lack);
+    };
+    walk.enter(alpha, gamma, product);
+    let Ok(mut prover) = ProductProver::begin(alloc, shape, 0, 0, rows, tables) else {
+        return Err(Lack);
+    };
+    prover.enter(alpha, gamma, product);
+    Ok((walk, prover))
+}
+
+/// The product of a flush of tuples of two on 2 ^ log rows.
+fn multiplied(alloc: Global, log: u32) -> Result<B128, Lack>
+    requires { log ≤ 20 }
+{
+    let shape = shape_of(alloc, PUSHED)?;
+    let (a, b) = (column(alloc, log, 0)?, column(alloc, log, 1 << 32)?);
+    let (alpha, gamma) = (element(100), element(200));
+    let product = leaves_product(alpha, gamma, a.as_slice(), b.as_slice());
+    let mut tables = ColumnTables::new(alloc);
+    keep(&mut tables, 0, a)?;
+    keep(&mut tables, 1, b)?;
+    let rows = rows_of(log);
+    if shape.tables().len() != 1 || !has_flush(&shape) {
+        return Err(Lack);
+    }
+    let Ok(there) = channel_products::has_lists(alloc, &shape, &[rows], &tables) else {
+        return Err(Lack);
+    };
+    if !there {
+        return Err(Lack);
+    }
+    let (mut walk, mut prover) = begin_product(
+        alloc, &shape, rows, &tables, alpha, gamma, product,
+    )?;
     meet_all(alloc, &mut walk, &mut prover)
 }
 
@@ -384,6 +469,7 @@ fn main(rt: HostRuntime) -> io::Result<()> {
     let value = match kind.as_str() {
         "merge" => merged(rt.alloc(), log),
         "shift" => shifted(rt.alloc(), log),
+        "product" => multiplied(rt.alloc(), log),
         _ => carries(rt.alloc(), log),
     };
     match value {
