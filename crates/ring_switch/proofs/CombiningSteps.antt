@@ -1,65 +1,16 @@
 -- Steps of the sum's table.
-use Rattle.std.proofs.Common.{◌≡◌, ◌∙◌, ℕ, suc, ◌+◌, ◌/◌, ◌%◌, ◌^◌, ◌<◌, ◌≤◌, inl, inr, List, [], ◌∷◌, drop, map, length, get_or, set, bit_xor, refl, sym, ap, subst, arith}
+use Rattle.std.proofs.Common.{◌≡◌, ◌∙◌, ℕ, ◌+◌, ◌^◌, ◌<◌, ◌≤◌, inl, inr, List, [], ◌∷◌, map, length, get_or, set, refl, sym, ap, arith}
 use Rattle.std.proofs.Math.ListN.{length-set}
 use Rattle.std.proofs.lemmas.Bool.{cases_lt}
 use Rattle.std.proofs.lemmas.Grind.{get_or-set_at}
 use Rattle.std.proofs.lemmas.List.{get_or_default, get_or-set_other}
-use Rattle.std.proofs.lemmas.Nat.Bits.{bit_at_lowest, bit_at-suc}
-use Rattle.tower_laws.specs.Tower.{mul}
-use Rattle.tower_laws.proofs.Field.{identity, from_one, field_terms}
 use Rattle.cube_laws.specs.Sums.{tabulate}
 use Rattle.cube_laws.specs.Extension.{bit, dot, weights}
 use Rattle.cube_laws.specs.SumClaim.{AllLong}
 use Rattle.cube_laws.proofs.Tabulate.{entries, map-tabulate, tabulated}
-use Rattle.cube_laws.proofs.Weights.{tabulate-same}
 use Rattle.tensor_laws.specs.Switch.{combined}
 use Rattle.tensor_laws.proofs.Switching.{combined_is}
-use Rattle.sumcheck.proofs.RowSteps.{opened_at}
 use Rattle.ring_switch.proofs.SwitchLaws.{length-combined}
-
--- ---- the weights of an element's bits
--- what is summed, with the bits that are left, is the whole sum
-pub record Weighing (element : ℕ) (ws : List ℕ) (i rest total : ℕ) : Type 0 where
-  pub within : length ws ≡ 128
-  pub is : (m : ℕ) → 128 ≡ i + m → bit_xor total (dot (tabulate m (bit rest)) (drop i ws)) ≡ dot (tabulate 128 (bit element)) ws
-
-nothing_yet : (d : ℕ) → bit_xor 0 d ≡ d
-nothing_yet d = identity (d ∷ []) (search field_terms depth 60 fits 20000) refl
-
-pub no_bit : (element : ℕ) (ws : List ℕ) → length ws ≡ 128 → Weighing element ws 0 element 0
-no_bit element ws l = record { within = l; is = λ m e. let n : m ≡ 128 = omega arith in nothing_yet _ ∙ ap (λ m. dot (tabulate m (bit element)) ws) n }
-
-one_more : (t w d b next : ℕ) → next ≡ bit_xor t (mul b w) → bit_xor next d ≡ bit_xor t (bit_xor (mul b w) d)
-one_more t w d b next h = from_one 1 h (identity (t ∷ w ∷ d ∷ b ∷ next ∷ []) (search field_terms depth 60 fits 20000) refl)
-
-more_bits : (element : ℕ) (ws : List ℕ) (i rest total w next : ℕ) → i < length ws → w ≡ get_or ws i w → next ≡ bit_xor total (mul (rest % 2) w) → Weighing element ws i rest total → Weighing element ws (i + 1) (rest / 2) next
-more_bits element ws i rest total w next l we e h = record {
-  within = h.within;
-  is = λ m n.
-      one_more total w (dot (tabulate m (bit (rest / 2))) (drop (i + 1) ws)) (rest % 2) next e
-      ∙ ap (λ d. bit_xor total (bit_xor (mul (rest % 2) w) (dot d (drop (i + 1) ws)))) (tabulate-same m (bit (rest / 2)) (λ k. bit rest (suc k)) (λ k j. sym (bit_at-suc rest k)))
-      ∙ ap (λ b. bit_xor total (bit_xor (mul b w) (dot (tabulate m (λ k. bit rest (suc k))) (drop (i + 1) ws)))) (sym (bit_at_lowest rest))
-      ∙ ap (λ v. bit_xor total (dot (tabulate (suc m) (bit rest)) v)) (sym (opened_at ws i w we l))
-      ∙ h.is (suc m) (omega arith);
-}
-
-with_one : (t w b : ℕ) → b ≡ 1 → bit_xor t w ≡ bit_xor t (mul b w)
-with_one t w b h = subst (λ b. bit_xor t w ≡ bit_xor t (mul b w)) (sym h) (identity (t ∷ w ∷ []) (search field_terms depth 60 fits 20000) refl)
-
-with_none : (t w b : ℕ) → b ≡ 0 → t ≡ bit_xor t (mul b w)
-with_none t w b h = subst (λ b. t ≡ bit_xor t (mul b w)) (sym h) (identity (t ∷ w ∷ []) (search field_terms depth 60 fits 20000) refl)
-
-pub bit_set : (element : ℕ) (ws : List ℕ) (i rest total w next : ℕ) → i < length ws → w ≡ get_or ws i w → rest % 2 ≡ 1 → next ≡ bit_xor total w → Weighing element ws i rest total → Weighing element ws (i + 1) (rest / 2) next
-bit_set element ws i rest total w next l we o e h = more_bits element ws i rest total w next l we (e ∙ with_one total w (rest % 2) o) h
-
-pub bit_clear : (element : ℕ) (ws : List ℕ) (i rest total w : ℕ) → i < length ws → w ≡ get_or ws i w → rest % 2 ≡ 0 → Weighing element ws i rest total → Weighing element ws (i + 1) (rest / 2) total
-bit_clear element ws i rest total w l we o h = more_bits element ws i rest total w total l we (with_none total w (rest % 2) o) h
-
-nothing_left : (t : ℕ) → t ≡ bit_xor t 0
-nothing_left t = identity (t ∷ []) (search field_terms depth 60 fits 20000) refl
-
-pub all_bits : (element : ℕ) (ws : List ℕ) (i rest total : ℕ) → length ws ≤ i → i ≤ length ws → Weighing element ws i rest total → total ≡ dot (tabulate 128 (bit element)) ws
-all_bits element ws i rest total l m h = let n = h.within in nothing_left total ∙ h.is 0 (omega arith)
 
 abbrev pub under : List ℕ → ℕ → ℕ
 under ws e = dot (tabulate 128 (bit e)) ws

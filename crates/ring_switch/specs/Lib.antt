@@ -1,3 +1,4 @@
 pub mod Switching
 pub mod SwitchFields
+pub mod BitWeights
 pub mod SwitchProver

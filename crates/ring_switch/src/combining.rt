@@ -5,36 +5,20 @@ ghost use Rattle.cube_laws.specs.Extension.{bit, dot};
 ghost use Rattle.cube_laws.specs.Sums.{tabulate};
 ghost use Rattle.tensor_laws.specs.Switch.{combined};
 
+use crate::bit_weights::BitWeights;
 use crate::no_memory::NoMemory;
 use crate::switched::Switched;
 use cube_mle::eq_table;
 use std::alloc::Global;
 use sumcheck::{Pair, SumProver, Tables128};
-use tower_field::{B128, Tower, Values};
-
-/// The sum of the weights of an element's bits.
-fn bits_under(element: B128, weights: &[B128]) -> B128
-    requires { length weights.now ≡ 128 }
-    ensures { result ≡ dot (tabulate 128 (bit element)) weights.now }
-{
-    let mut rest = element.number();
-    let mut total = B128::ZERO;
-    for weight in weights {
-        if rest % 2 == 1 {
-            total = total + *weight;
-        }
-        rest /= 2;
-    }
-    total
-}
+use tower_field::{B128, Values};
 
 /// For each element the sum of the weights of its bits, in place.
-fn combine(cells: &mut Vec<B128>, weights: &[B128])
-    requires { length weights.now ≡ 128 }
+fn combine(cells: &mut Vec<B128>, weights: &BitWeights)
     ensures { cells.new.items ≡ map (λ e. dot (tabulate 128 (bit e)) weights.now) cells.old.items }
 {
     for i in 0..cells.len() {
-        cells[i] = bits_under(cells[i], weights);
+        cells[i] = weights.sum(cells[i]);
     }
 }
 
@@ -44,8 +28,8 @@ fn combined_table(alloc: Global, switched: &Switched) -> Result<Vec<B128>, NoMem
     ensures { IfOk result (λ cells. cells.items ≡ combined switched.now.high switched.now.combine) }
 {
     let mut cells = eq_table(alloc, switched.high())?;
-    let weights = eq_table(alloc, switched.prefix(7))?;
-    combine(&mut cells, weights.as_slice());
+    let weights = BitWeights::new(alloc, eq_table(alloc, switched.prefix(7))?)?;
+    combine(&mut cells, &weights);
     Ok(cells)
 }
 

@@ -2,6 +2,7 @@
 
 #![tactic(auto)]
 
+mod bit_weights;
 mod combining;
 mod ending;
 mod laws;

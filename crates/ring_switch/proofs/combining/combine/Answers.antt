@@ -7,7 +7,7 @@ loop-i-preserved c =
     let t = c.loop-i-test.true in
     let n = c.len-i-end.ensures in
     let long = c.loop-i.invariant.long in
-    more_mapped (under c.args.weights.now) c.loop-i.i c.index.result.now c.bits_under.result c.args.cells.now.items c.loop-i.cells.items (omega arith) (c.bits_under.ensures ∙ ap (under c.args.weights.now) c.index.ensures) c.loop-i.invariant
+    more_mapped (under c.args.weights.now) c.loop-i.i c.index.result.now c.sum.result c.args.cells.now.items c.loop-i.cells.items (omega arith) (c.sum.ensures ∙ ap (under c.args.weights.now) c.index.ensures) c.loop-i.invariant
 
 pub returns : goal.returns
 returns c =
