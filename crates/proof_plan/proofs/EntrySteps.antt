@@ -71,7 +71,7 @@ root_between n = cond (n == 0) [] (Root ∷ [])
 abbrev pub switch_round : List PlanEntry
 switch_round = Message check.RoundSum 3 ∷ Draw draw.SwitchRound 2 ∷ []
 
-pub not_zero : (n : ℕ) → (suc n == 0) ≡ false
+not_zero : (n : ℕ) → (suc n == 0) ≡ false
 not_zero n = go (suc n == 0) refl
   where
     go : (b : Bool) → (suc n == 0) ≡ b → b ≡ false
@@ -104,12 +104,3 @@ flat_pushed f n first now new e h =
 -- ---- numbers of rows
 pub log_small : (rows : ℕ) → rows < 2 ^ 32 → ceil_log rows ≤ 32
 log_small rows h = at_most rows 32 (omega arith)
-
--- ---- a root before each round but the first
-pub root_pushed : (n : ℕ) (now root : List PlanEntry) → 0 < n → root ≡ now ++ Root ∷ [] → root ≡ now ++ root_between n
-root_pushed zero now root h e = absurd (omega arith)
-root_pushed (suc n) now root h e = e ∙ ap (λ b. now ++ cond b [] (Root ∷ [])) (sym (not_zero n))
-
-pub root_left : (n : ℕ) (now root : List PlanEntry) → n ≤ 0 → root ≡ now → root ≡ now ++ root_between n
-root_left zero now root h e = e ∙ sym (append-nil now)
-root_left (suc n) now root h e = absurd (omega arith)

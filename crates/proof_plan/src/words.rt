@@ -1,6 +1,7 @@
 //! The entries of the claim on bits and of the switch to words.
 
-ghost use Rattle.std.specs.Prelude.{◌≡◌, ◌++◌, OnOk};
+ghost use Rattle.std.specs.Prelude.{◌≡◌, ◌++◌, ◌==◌, ◌∷◌, [], cond, OnOk};
+ghost use Rattle.proof_plan.specs.declared.plan_entry.PlanEntry.TheVariants.{Root};
 ghost use Rattle.proof_plan.specs.Plan.{bit_entries, switch_entries, switch_rounds};
 
 use crate::plan_entry::PlanEntry;
@@ -26,14 +27,23 @@ pub fn push_bits(places: u32, claims: u64, entries: &mut Vec<PlanEntry>) -> Resu
     )
 }
 
+/// The root of the word that the rounds before this one have folded, if there are any.
+fn push_root(round: u32, entries: &mut Vec<PlanEntry>) -> Result<(), AllocError>
+    ensures { OnOk result (entries.new.items ≡ entries.old.items ++ cond (round == 0) [] (Root ∷ [])) }
+{
+    if round == 0 {
+        return Ok(());
+    }
+    entries.push(PlanEntry::Root)?;
+    Ok(())
+}
+
 /// The rounds over the words, with the root of each folded word but the last.
 fn push_switch_rounds(vars: u32, entries: &mut Vec<PlanEntry>) -> Result<(), AllocError>
     ensures { OnOk result (entries.new.items ≡ entries.old.items ++ switch_rounds vars) }
 {
     for round in 0..vars {
-        if round > 0 {
-            entries.push(PlanEntry::Root)?;
-        }
+        push_root(round, entries)?;
         entries.push(PlanEntry::Message {
             check: CheckKind::RoundSum,
             length: 3,
