@@ -1,5 +1,5 @@
 -- Steps of the prover.
-use Rattle.std.proofs.Common.{◌≡◌, ℕ, zero, suc, ◌+◌, ◌-◌, ◌^◌, ◌<◌, ◌≤◌, false, is_some, Option, Some, None, List, [], ◌∷◌, ◌++◌, map, length, vec_capacity, refl, sym, ◌∙◌, ap, subst, arith}
+use Rattle.std.proofs.Common.{◌≡◌, ℕ, zero, suc, ◌+◌, ◌-◌, ◌^◌, ◌≤◌, false, is_some, Option, Some, None, List, [], ◌∷◌, ◌++◌, map, length, vec_capacity, refl, sym, ◌∙◌, ap, subst, arith}
 use Rattle.std.proofs.lemmas.List.{length-append}
 use Rattle.cube_laws.specs.Extension.{extension, fold_low}
 use Rattle.cube_laws.specs.SumClaim.{AllLong}
@@ -11,11 +11,11 @@ use Rattle.sumcheck.specs.Rounds.{Rounds, sum_claim, round_claim, with_claim, cl
 use Rattle.sumcheck.specs.Summing.{adding, closed, summed_entries}
 use Rattle.sumcheck.specs.Proving.{Proving, Goes}
 use Rattle.sumcheck.specs.Pair.{pair_form}
-use Rattle.sumcheck.proofs.Following.{draw_left, draw_sets, goes_first, goes_last, goes_passed, goes_round}
+use Rattle.sumcheck.proofs.Following.{draw_sets, goes_first, goes_last, goes_passed, goes_round}
 use Rattle.table_shape.specs.Placement.{Block, places_log}
 use Rattle.bit_claim.specs.declared.bit_prover.BitProver.{BitProver}
-use Rattle.bit_claim.specs.BatchFollowing.{FollowsBatch, FollowsSum, Gives, GoesOn, IsNew, Ready, Tells, places, second}
-use Rattle.bit_claim.specs.Batching.{Batched, Batching, BitValue, waiting, opening, summed, batch_sum, batching_draw, batching_entries, batching_honest, batching_message}
+use Rattle.bit_claim.specs.BatchFollowing.{FollowsBatch, FollowsSum, Gives, GoesOn, IsNew, Ready, places, second}
+use Rattle.bit_claim.specs.Batching.{Batched, Batching, waiting, opening, summed, batch_sum, batching_draw, batching_entries, batching_honest, batching_message}
 use Rattle.bit_claim.specs.Bits.{bits, claim_table}
 
 -- ---- the table of the claims does not depend on their values
@@ -27,12 +27,6 @@ same_tables : (bs : List Block) (cs ds : List ColumnClaim) → places cs ≡ pla
 same_tables bs cs ds e = tables_of_places bs cs ∙ ap (map (claim_table bs)) e ∙ sym (tables_of_places bs ds)
 
 -- ---- what follows
-pub start_whole : (p : BitProver) (F : Filling) (s : Batching) → FollowsSum p None F s → AwaitsSome (batching_entries s) → length p.bits.items ≡ 2 ^ places_log p.batched.blocks
-start_whole p F (waiting bs m) h w = absurd h
-start_whole p F (opening bs cs) h w = absurd w
-start_whole p F (summed (adding t r)) h w = ap length h.1.held ∙ h.1.whole ∙ ap (λ (bs : List Block). 2 ^ places_log bs) (sym h.1.blocks)
-start_whole p F (summed (closed b)) h w = absurd h
-
 pub none_of : (o : Option (Proving Pair)) → is_some o ≡ false → o ≡ None
 none_of None e = refl
 none_of (Some q) e = absurd cc
@@ -105,24 +99,7 @@ draw_goes_on now next p q x a b room F (opening bs cs) h w = absurd h
 draw_goes_on now next p q x a b room F (summed (adding t r)) h w = on_kept now next p q x a b room F t r h w
 draw_goes_on now next p q x a b room F (summed (closed c)) h w = absurd w
 
-can_push : (now : BitProver) (p : Proving Pair) (F : Filling) (t : Batched) (r : Rounds) → GoesOn now p F t r → AwaitsDraw (summed_entries batch_sum (adding t r)) → length now.draws.items < vec_capacity now.draws
-can_push now p F t (sum_claim d zero z c) h w = absurd w
-can_push now p F t (sum_claim d (suc m) z c) h w = absurd w
-can_push now p F t (round_claim d m z v) h w = let l = h.vars in let k = ap length h.draws in omega (arith, l, k, h.memory)
-
-pub draw_possible : (now : BitProver) (p : Proving Pair) (F : Filling) (s : Batching) → FollowsSum now (Some p) F s → AwaitsDraw (batching_entries s) → (0 < p.left) × (length now.draws.items < vec_capacity now.draws)
-draw_possible now p F (waiting bs m) h w = absurd h
-draw_possible now p F (opening bs cs) h w = absurd h
-draw_possible now p F (summed (adding t r)) h w = (draw_left batch_sum pair_form p F t r h.goes w, can_push now p F t r h w)
-draw_possible now p F (summed (closed c)) h w = absurd w
-
 -- ---- a message
-pub two_lists : (now : BitProver) (p : Proving Pair) (F : Filling) (s : Batching) → FollowsSum now (Some p) F s → AwaitsSome (batching_entries s) → length p.lists ≡ 2
-two_lists now p F (waiting bs m) h w = absurd h
-two_lists now p F (opening bs cs) h w = absurd h
-two_lists now p F (summed (adding t r)) h w = ap length h.goes.lists
-two_lists now p F (summed (closed c)) h w = absurd w
-
 -- the second table's value is the extension of the bits
 bits_value : (F : Filling) (p : Proving Pair) (t : Batched) (d : ℕ) (z : List ℕ) (c : ℕ) → Goes pair_form p (batch_sum.sum F t) (sum_claim d zero z c) → second p ≡ extension (bits F t.blocks) z
 bits_value F p t d z c h = goes_last pair_form p (batch_sum.sum F t) d 1 z c (omega arith) h
@@ -155,11 +132,6 @@ message_follows now next p told old new g e v F (summed (adding t (sum_claim d (
       memory = subst (λ l. places_log t.blocks ≤ vec_capacity l) (sym e) h.memory;
     }
 message_follows now next p told old new g e v F (summed (adding t (round_claim d n z u))) h w = absurd w
-
--- ---- at the end
-pub at_end : (p : BitProver) (q : Option (Proving Pair)) (F : Filling) (b : BitValue) → FollowsSum p q F (summed (closed b)) → Tells p F b
-at_end p None F b h = absurd h
-at_end p (Some q) F b h = h
 
 -- ---- claims that are entered
 pub entered : (p next : BitProver) (bs : List Block) (ds : List ColumnClaim) → IsNew bs p → next.batched ≡ record p.batched { claims = ds } → next.bits ≡ p.bits → next.sum ≡ p.sum → next.draws ≡ p.draws

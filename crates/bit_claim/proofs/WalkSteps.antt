@@ -8,7 +8,7 @@ use Rattle.sumcheck.proofs.Lawful.{draw_due}
 use Rattle.table_shape.specs.Placement.{Block}
 use Rattle.bit_claim.specs.declared.bit_walk.Stage.{Stage}
 use Rattle.bit_claim.specs.declared.bit_walk.Stage.TheVariants.{Waiting, Opening, Adding}
-use Rattle.bit_claim.specs.Batching.{Batched, Batching, BitValue, Takes, batch_sum, batching_entries}
+use Rattle.bit_claim.specs.Batching.{Batched, Batching, BitValue, batch_sum, batching_entries}
 use Rattle.bit_claim.specs.Bits.{IsPlaced}
 use Rattle.bit_claim.specs.BitWalk.{batching_of}
 
@@ -27,12 +27,3 @@ at_stage Adding t r (Some c) m e h = absurd h
 
 pub bind_due : (g : Stage) (t : Batched) (r : Rounds) (o : Option BitValue) (m : ℕ) (s : Batching) → batching_of g t r o m ≡ s → g ≡ Adding → AwaitsDraw (batching_entries s) → DrawIsDue r
 bind_due g t r o m s v e h = at_stage g t r o m e (rw v h)
-
--- ---- claims that are entered
-pub takes_placed : (g : Stage) (t : Batched) (r : Rounds) (o : Option BitValue) (m : ℕ) (cs : List ColumnClaim) → Takes cs (batching_of g t r o m) → AllByRecursion (IsPlaced t.blocks) cs
-takes_placed Waiting t r None m cs h = h.1
-takes_placed Opening t r None m cs h = absurd h
-takes_placed Adding t r None m cs h = absurd h
-takes_placed Waiting t r (Some c) m cs h = absurd h
-takes_placed Opening t r (Some c) m cs h = absurd h
-takes_placed Adding t r (Some c) m cs h = absurd h
