@@ -47,7 +47,8 @@ impl Room {
     pub fn fill(&mut self, alloc: Global, claims: &[ColumnClaim]) -> Vec<ColumnClaim>
         requires many { length claims.now ≤ self.old }
         requires short { AllByRecursion (λ claim. length claim.point ≤ 24) claims.now }
-        ensures { result.items ≡ claims.now }
+        ensures copies { result.items ≡ claims.now }
+        ensures none { self.new ≡ 0 }
     {
         self.free = 0;
         let mut copies = std::mem::replace(&mut self.claims, Vec::new(alloc));
