@@ -1,12 +1,10 @@
 //! What a prover leaves.
 
 use crate::no_memory::NoMemory;
+use crate::switched::MOST;
 use std::alloc::Global;
 use std::marker::Model;
 use tower_field::{B128, Tower};
-
-/// The most draws of rounds.
-const MOST: usize = 17;
 
 /// The draws of the rounds, and the value once it is told.
 #[derive(Drop)]

@@ -9,8 +9,8 @@ use std::marker::Model;
 use sumcheck::{SumOf, SumTerms};
 use tower_field::{B128, Tower};
 
-/// The most coordinates of a high point.
-const MOST: usize = 17;
+/// The most coordinates of a high point, and so the most rounds.
+pub(crate) const MOST: usize = 17;
 
 /// The coordinates of the high point, and the draws that set the rows.
 #[derive(Drop)]
