@@ -1,8 +1,8 @@
 -- Steps of loops over columns.
-use Rattle.std.proofs.Common.{◌≡◌, ◌∙◌, ℕ, zero, suc, ◌+◌, ◌-◌, ◌<◌, ◌≤◌, ◌==◌, Bool, true, false, cond, List, [], ◌∷◌, ◌++◌, length, take, drop, get_or, length-append, refl, sym, ap, subst, arith}
+use Rattle.std.proofs.Common.{◌≡◌, ◌∙◌, ℕ, zero, suc, ◌+◌, ◌-◌, ◌<◌, ◌≤◌, ◌==◌, Bool, true, false, cond, List, [], ◌∷◌, ◌++◌, length, take, drop, get_or, length-append, refl, sym, ap, arith}
 use Rattle.std.proofs.lemmas.List.{append-nil, append_assoc}
 use Rattle.std.proofs.lemmas.List.Elements.{filter-append}
-use Rattle.std.specs.List.{AllByRecursion, filter, list_any, slice_index}
+use Rattle.std.specs.List.{filter, list_any, slice_index}
 use Rattle.cube_laws.specs.Sums.{tabulate}
 use Rattle.cube_laws.proofs.Tabulate.{tabulate-suc}
 use Rattle.table_shape.specs.declared.shape.ColumnShape.{ColumnShape}
@@ -15,16 +15,10 @@ use Rattle.poly_forms.specs.declared.check_kind.CheckKind.TheVariants as check
 use Rattle.poly_forms.specs.declared.draw_kind.DrawKind.TheVariants as draw
 use Rattle.proof_plan.specs.declared.plan_entry.PlanEntry.TheVariants.{Draw}
 use Rattle.proof_plan.specs.Plan.{bit_claims, coordinates, first_columns, group_columns, group_degree, group_entries, sum_entries, table_entries}
-use Rattle.std.proofs.lemmas.Bool.{eq-eqb, eqb-true}
+use Rattle.std.proofs.lemmas.Bool.{eqb-true}
 use Rattle.zerocheck.specs.Group.{named, names}
 use Rattle.proof_plan.specs.declared.plan_entry.PlanEntry.{PlanEntry}
 use Rattle.proof_plan.specs.Plan.{backwards, claims_after, column_entries, columns_entries, committed_claims, is_committed, times_in}
-
--- ---- what holds of each item of a list
-pub all_at : {X : Type 0} (P : X → Type 0) (xs : List X) (i : ℕ) (x : X) → AllByRecursion P xs → i < length xs → x ≡ get_or xs i x → P x
-all_at P [] i x h l e = absurd (omega arith)
-all_at P (y ∷ ys) zero x h l e = subst P (sym e) h.0
-all_at P (y ∷ ys) (suc i) x h l e = all_at P ys i x h.1 (omega arith) e
 
 -- ---- one more column that constraints name
 abbrev pub some_names : List ConstraintShape → ℕ → Bool
@@ -50,11 +44,11 @@ named_counted zs n b now new e s p = go b s p
     go true q r = let l = ap (λ (v : Bool). length (cond v (n ∷ []) [])) q in let m = more in omega arith
     go false q r = let l = ap (λ (v : Bool). length (cond v (n ∷ []) [])) q in let m = more in omega arith
 
-pub column_pushed : (zs : List ConstraintShape) (n : ℕ) (b : Bool) (now new : List ℕ) → b ≡ true → new ≡ now ++ n ∷ [] → new ≡ now ++ cond b (n ∷ []) []
-column_pushed zs n b now new t e = e ∙ ap (λ (w : Bool). now ++ cond w (n ∷ []) []) (sym t)
+pub column_pushed : (n : ℕ) (b : Bool) (now new : List ℕ) → b ≡ true → new ≡ now ++ n ∷ [] → new ≡ now ++ cond b (n ∷ []) []
+column_pushed n b now new t e = e ∙ ap (λ (w : Bool). now ++ cond w (n ∷ []) []) (sym t)
 
-pub column_left : (zs : List ConstraintShape) (n : ℕ) (b : Bool) (now new : List ℕ) → b ≡ false → new ≡ now → new ≡ now ++ cond b (n ∷ []) []
-column_left zs n b now new t e = e ∙ sym (append-nil now) ∙ ap (λ (w : Bool). now ++ cond w (n ∷ []) []) (sym t)
+pub column_left : (n : ℕ) (b : Bool) (now new : List ℕ) → b ≡ false → new ≡ now → new ≡ now ++ cond b (n ∷ []) []
+column_left n b now new t e = e ∙ sym (append-nil now) ∙ ap (λ (w : Bool). now ++ cond w (n ∷ []) []) (sym t)
 
 -- ---- the constraints of one number of values per row
 pub group_pushed : (rows v size vars d n : ℕ) (table : TableShape) (first one two three : List PlanEntry) → size ≡ length (group v table) → ¬ (size ≡ 0) → vars ≡ ceil_log rows + v → d ≡ group_degree v table → n ≡ length (group_columns v table)
@@ -73,11 +67,6 @@ group_pushed rows v size vars d n table first one two three s some w e m h i j =
     go true q = absurd (some (s ∙ eqb-true (length (group v table)) 0 q))
     go false q =
         pushed ∙ ap (λ (b : Bool). first ++ cond b [] (Draw draw.ConstraintBatch (length (group v table) - 1) ∷ coordinates draw.ZeroCoordinate (ceil_log rows + v) ++ sum_entries draw.ZeroRound (group_degree v table + 2) (ceil_log rows + v) check.ZeroFinal (length (group_columns v table)))) (sym q)
-
-pub none_pushed : (rows v size : ℕ) (table : TableShape) (first : List PlanEntry) → size ≡ length (group v table) → size ≡ 0 → first ≡ first ++ group_entries rows table v
-none_pushed rows v size table first s e =
-    sym (append-nil first)
-    ∙ ap (λ (b : Bool). first ++ cond b [] (Draw draw.ConstraintBatch (length (group v table) - 1) ∷ coordinates draw.ZeroCoordinate (ceil_log rows + v) ++ sum_entries draw.ZeroRound (group_degree v table + 2) (ceil_log rows + v) check.ZeroFinal (length (group_columns v table)))) (sym (eq-eqb (length (group v table)) 0 (sym s ∙ e)))
 
 -- ---- one table more
 pub table_pushed : (rows : List ℕ) (t : ℕ) (tables : List TableShape) (table : TableShape) (columns : List ColumnShape) (claimed : List ℕ) (now next whole : List PlanEntry) → t < length tables → table ≡ get_or tables t table → columns ≡ table.columns → claimed ≡ first_columns table
@@ -143,20 +132,3 @@ column_done rows i n j cs column claimed claimed_next now next whole committed c
           ∙ (let b : committed + counted column (times_in (length before) claimed) + committed_claims before (claims_after column (times_in (length before) claimed) claimed) ≡ committed + (counted column (times_in (length before) claimed) + committed_claims before (claims_after column (times_in (length before) claimed) claimed)) = omega arith in b)
           in a ∙ two;
     }
-
-take_all : (cs : List ColumnShape) → take (length cs) cs ≡ cs
-take_all [] = refl
-take_all (x ∷ xs) = ap (λ ys. x ∷ ys) (take_all xs)
-
--- at the start none is done
-pub none_done : (rows : ℕ) (cs : List ColumnShape) (claimed : List ℕ) (now : List PlanEntry)
-    → Done rows (backwards (take (length cs) cs)) claimed now (now ++ columns_entries rows (backwards cs) claimed) 0 (committed_claims (backwards cs) claimed)
-none_done rows cs claimed now = record {
-  entries = ap (λ bs. now ++ columns_entries rows (backwards bs) claimed) (take_all cs);
-  count = let e = ap (λ bs. committed_claims (backwards bs) claimed) (take_all cs) in omega arith;
-}
-
--- and at the end all are
-pub all_done : (rows n : ℕ) (cs : List ColumnShape) (claimed : List ℕ) (now whole : List PlanEntry) (committed total : ℕ) → n ≤ 0 → Done rows (backwards (take n cs)) claimed now whole committed total → (now ≡ whole) × (committed ≡ total)
-all_done rows zero cs claimed now whole committed total h d = (sym (append-nil now) ∙ d.entries, (let e = d.count in omega arith))
-all_done rows (suc n) cs claimed now whole committed total h d = absurd (omega arith)

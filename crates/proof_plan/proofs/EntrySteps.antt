@@ -58,12 +58,6 @@ layer_pushed c k n whole now one two three below e h i j =
     ∙ append_assoc now (rounds draw.LayerRound 3 k) (Message check.LayerFinal 2 ∷ Draw draw.LayerJoin 1 ∷ rest)
     ∙ ap (λ es. now ++ es) (sym (layers_more c k (n - (k + 1)) (n - k) (omega arith))) ∙ e
 
-pub leaves_pushed : (c k n : ℕ) (whole now new : List PlanEntry) → n ≤ k → k ≤ n → now ++ layer_entries c k (n - k) ≡ whole → new ≡ now ++ layer_entries c n 0 → new ≡ whole
-leaves_pushed c k n whole now new a b e h =
-    let s : n ≡ k = omega arith in
-    let t : 0 ≡ n - k = omega arith in
-    h ∙ (λ i. now ++ layer_entries c (s i) (t i)) ∙ e
-
 -- ---- one round more over the words
 abbrev pub root_between : ℕ → List PlanEntry
 root_between n = cond (n == 0) [] (Root ∷ [])

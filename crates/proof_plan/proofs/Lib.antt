@@ -4,4 +4,3 @@ pub mod SmallShape
 pub mod Bounded
 pub mod CountBounds
 pub mod PlanBounds
-pub mod SizeSteps

@@ -13,12 +13,13 @@ ghost use Rattle.poly_forms.specs.declared.check_kind.CheckKind.TheVariants as c
 ghost use Rattle.poly_forms.specs.declared.draw_kind.DrawKind.TheVariants as draw;
 ghost use Rattle.proof_plan.specs.Small.{ColumnIsSmall, FormIsSmall, KindIsSmall, TableIsSmall};
 
-use crate::constraints::{MAX_LOG_VALUES, push_group_columns};
+use crate::constraints::push_group_columns;
 use crate::plan_entry::PlanEntry;
 use crate::rounds::{push_coordinates, push_sum};
 use poly_forms::{CheckKind, DrawKind};
 use std::alloc::{AllocError, Global};
 use table_shape::{ColumnKind, ColumnShape, FlushShape, ShapeForm, TableShape, ceil_log};
+use table_text::limits::MAX_LOG_VALUES;
 
 /// Claims on a column of `2 ^ vars` values become one.
 fn push_merge(vars: u32, claims: u64, entries: &mut Vec<PlanEntry>) -> Result<(), AllocError>

@@ -16,10 +16,8 @@ use crate::rounds::{push_coordinates, push_sum};
 use poly_forms::{CheckKind, DrawKind};
 use std::alloc::AllocError;
 use table_shape::{ConstraintShape, TableShape, ceil_log};
+use table_text::limits::MAX_LOG_VALUES;
 use zerocheck::names;
-
-/// A column has at most `2 ^ MAX_LOG_VALUES` values per row.
-pub const MAX_LOG_VALUES: u32 = 7;
 
 /// How many constraints have `2 ^ log` values per row.
 fn group_size(log: u32, constraints: &[ConstraintShape]) -> u64

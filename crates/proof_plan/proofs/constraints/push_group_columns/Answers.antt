@@ -13,7 +13,7 @@ loop-column-preserved c =
     let named = c.some_names.ensures ∙ ap (λ (all : List ConstraintShape). list_any (λ (z : ConstraintShape). names c.loop-column.column z.expr) (filter (λ (z : ConstraintShape). z.log_values == c.args.log) all)) c.as_slice.ensures in
     let more : c.if-some_names.claimed.items ≡ c.loop-column.claimed.items ++ cond c.some_names.result (c.loop-column.column ∷ []) [] =
     elim c.if-some_names.branch [
-      | then-some_names+in_ok-push w ↦ column_pushed zs c.loop-column.column c.some_names.result c.loop-column.claimed.items c.if-some_names.claimed.items w.if-some_names.true (ap (λ (v : Vec ℕ Global). v.items) w.claimed-is ∙ w.in_ok-push.ensures.items)
-      | else-some_names w ↦ column_left zs c.loop-column.column c.some_names.result c.loop-column.claimed.items c.if-some_names.claimed.items w.if-some_names.false (ap (λ (v : Vec ℕ Global). v.items) w.claimed-is)
+      | then-some_names+in_ok-push w ↦ column_pushed c.loop-column.column c.some_names.result c.loop-column.claimed.items c.if-some_names.claimed.items w.if-some_names.true (ap (λ (v : Vec ℕ Global). v.items) w.claimed-is ∙ w.in_ok-push.ensures.items)
+      | else-some_names w ↦ column_left c.loop-column.column c.some_names.result c.loop-column.claimed.items c.if-some_names.claimed.items w.if-some_names.false (ap (λ (v : Vec ℕ Global). v.items) w.claimed-is)
     ] in
     named_at zs c.loop-column.column c.some_names.result c.args.claimed.now.items c.loop-column.claimed.items c.if-some_names.claimed.items c.loop-column.invariant named more
