@@ -4,3 +4,4 @@ pub mod MemShelfSteps
 pub mod Pieces
 pub mod PutSteps
 pub mod ReadSteps
+pub mod WriteSteps

@@ -84,6 +84,10 @@ pub record Appends (old new : ShelfState) (name added : List ℕ) : Type 0 where
   pub named : IsTrue new.told → bytes_of new name ≡ bytes_of old name ++ added
   pub others : IsTrue new.told → SameOtherFiles old new name
 
+-- a shelf that tells its files has added a first part of these bytes to the file of this name, and changed no other
+pub record AppendsPrefix (old new : ShelfState) (name bytes : List ℕ) : Type 0 where
+  pub prefix : (count : ℕ) × Appends old new name (take count bytes)
+
 -- so many bytes of a piece were taken: at most all of them, and at least one where there is one
 pub record Takes (piece : List ℕ) (count : ℕ) : Type 0 where
   pub at_most : count ≤ length piece

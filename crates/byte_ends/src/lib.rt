@@ -13,6 +13,7 @@ mod putting;
 mod reading;
 mod shelf;
 mod sink;
+mod writing;
 
 pub use failed::Failed;
 pub use mem_shelf::MemShelf;
@@ -24,3 +25,4 @@ pub use putting::{WriteFault, put_whole};
 pub use reading::{WholeStop, read_whole};
 pub use shelf::Shelf;
 pub use sink::Sink;
+pub use writing::write_whole;
