@@ -1,8 +1,8 @@
-use Rattle.std.proofs.Common.{◌≡◌, ℕ, ◌+◌, ◌-◌, ◌≤◌, List, [], ◌++◌, length, take, drop, ap, ◌∙◌, sym, subst, arith, length-drop}
+use Rattle.std.proofs.Common.{◌≡◌, ℕ, ◌+◌, List, [], ◌++◌, take, drop, ap, ◌∙◌, sym, subst, arith}
 use Rattle.std.specs.Prelude.{IsTrue, unwrap_or}
 use Rattle.byte_ends.specs.Counts.{Rose}
 use Rattle.byte_ends.specs.Shelf.{ShelfState, bytes_of, SameFaults, ReadFailed, ReadsOnly, Gives}
-use Rattle.byte_ends.proofs.Pieces.{take-add, count_within}
+use Rattle.byte_ends.proofs.Pieces.{take-add}
 use Rattle.byte_ends.proofs.PutSteps.{told_along}
 
 -- one read and then another leave what each leaves
@@ -49,14 +49,12 @@ pub bytes_kept : {a b : ShelfState} → ReadsOnly a b → IsTrue a.told → (nam
 bytes_kept {a} {b} kept told name = ap (λ file. unwrap_or file []) ((kept.files told).each name)
 
 -- what was read and what a read then gives are a longer first part of the file
-pub read_more : {file : List ℕ} {into : List ℕ} (whole : List ℕ) (at count : ℕ)
-    → whole ≡ take at file → Gives file into at count → whole ++ take count into ≡ take (at + count) file
-read_more {file} {into} whole at count e given =
+pub read_more : {a b : ShelfState} {into : List ℕ} (name bytes : List ℕ) (at count : ℕ)
+    → ReadsOnly a b → IsTrue a.told → bytes ≡ take at (bytes_of a name)
+    → (IsTrue b.told → Gives (bytes_of b name) into at count)
+    → bytes ++ take count into ≡ take (at + count) (bytes_of a name)
+read_more {a} {b} {into} name bytes at count kept told e given =
     ap (λ front. front ++ take count into) e
-    ∙ ap (λ back. take at file ++ back) given.bytes
-    ∙ sym (take-add at count file)
-
--- a file has all the bytes that a read gave of it
-pub given_within : {file into : List ℕ} {at count : ℕ} → count ≤ length into → Gives file into at count → count ≤ length file - at
-given_within {file} {into} {at} {count} fits given =
-    omega (arith, count_within count into (drop at file) fits given.bytes, length-drop at file)
+    ∙ ap (λ back. take at (bytes_of a name) ++ back) (given (told_along b.told a.told kept.told told)).bytes
+    ∙ ap (λ file. take at (bytes_of a name) ++ take count (drop at file)) (bytes_kept kept told name)
+    ∙ sym (take-add at count (bytes_of a name))

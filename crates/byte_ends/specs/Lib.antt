@@ -3,6 +3,7 @@ pub mod MemFile
 pub mod MemShelf
 pub mod MemSink
 pub mod Os
+pub mod ReadStop
 pub mod Shelf
 pub mod Sink
 pub mod WholeStop

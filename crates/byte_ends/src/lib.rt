@@ -22,7 +22,7 @@ pub use no_memory::NoMemory;
 pub use os_shelf::OsShelf;
 pub use os_sink::OsSink;
 pub use putting::{WriteFault, put_whole};
-pub use reading::{WholeStop, read_whole};
+pub use reading::{ReadStop, WholeStop, read_upto, read_whole};
 pub use shelf::Shelf;
 pub use sink::Sink;
 pub use writing::write_whole;
