@@ -1,6 +1,6 @@
 use byte_ends::{
-    Failed, MemShelf, MemSink, OsShelf, OsSink, Shelf, Sink, WholeStop, WriteFault, put_whole,
-    read_whole,
+    Failed, MemShelf, MemSink, OsShelf, OsSink, ReadStop, Shelf, Sink, WholeStop, WriteFault,
+    put_whole, read_upto, read_whole, write_whole,
 };
 use std::alloc::Global;
 use std::process::Abort;
@@ -130,6 +130,34 @@ fn reads_whole_files(rt: HostRuntime) -> Result<(), Fail> {
 }
 
 #[test]
+fn reads_files_up_to_a_limit(rt: HostRuntime) -> Result<(), Fail> {
+    let long = vec![in rt.alloc(); 7; 70_000]?;
+    let cases: [(&[u8], usize, &[u64], u64, Result<&[u8], ReadStop>); 13] = [
+        (b"hello", 1, &[], 6, Ok(b"hello")),
+        (b"hello", 7, &[], u64::MAX, Ok(b"hello")),
+        (b"hello", 1, &[], 5, Ok(b"hello")),
+        (b"hello", 7, &[1], 5, Ok(b"hello")),
+        (b"hello", 1, &[4], 4, Ok(b"hell")),
+        (b"hello", 7, &[], 1, Ok(b"h")),
+        (b"hello", 7, &[0], 0, Ok(b"")),
+        (b"", 1, &[], 3, Ok(b"")),
+        (b"hello", 7, &[0], 5, Err(ReadStop::ReadFault)),
+        (b"hello", 1, &[3], 5, Err(ReadStop::ReadFault)),
+        (b"hello", 7, &[1], 6, Err(ReadStop::ReadFault)),
+        (&long, 70_000, &[], 70_001, Ok(long.as_slice())),
+        (&long, 70_000, &[], 65_537, Ok(&long[..65_537])),
+    ];
+    for (bytes, chunk, failing, limit, want) in cases {
+        let mut shelf = shelf_with(rt.alloc(), chunk, failing, bytes)?;
+        match read_upto(rt.alloc(), &mut shelf, "a", limit) {
+            Ok(first) => assert_eq!(rt; Ok(first.as_slice()), want, "limit {limit}"),
+            Err(stop) => assert_eq!(rt; Err(stop), want, "limit {limit}"),
+        }
+    }
+    Ok(())
+}
+
+#[test]
 fn puts_whole_pieces(rt: HostRuntime) -> Result<(), Fail> {
     let cases: [(usize, &[u64], usize, Result<(), WriteFault>, &[u8]); 6] = [
         (3, &[], 11, Ok(()), b"hello world"),
@@ -145,6 +173,34 @@ fn puts_whole_pieces(rt: HostRuntime) -> Result<(), Fail> {
         assert_eq!(rt; put_whole(&mut sink, b"hello world"), want, "room {room}");
         assert_eq!(rt; sink.bytes(), bytes, "room {room}");
     }
+    Ok(())
+}
+
+#[test]
+fn writes_whole_pieces(rt: HostRuntime) -> Result<(), Fail> {
+    let cases: [(usize, &[u64], usize, Result<(), WriteFault>, &[u8]); 8] = [
+        (1, &[], 13, Ok(()), b"a hello world"),
+        (7, &[], 13, Ok(()), b"a hello world"),
+        (4_096, &[], 99, Ok(()), b"a hello world"),
+        (7, &[2], 13, Ok(()), b"a hello world"),
+        (7, &[0], 13, Err(WriteFault), b"a "),
+        (1, &[3], 13, Err(WriteFault), b"a hel"),
+        (7, &[1], 13, Err(WriteFault), b"a hello w"),
+        (4_096, &[], 6, Err(WriteFault), b"a hell"),
+    ];
+    for (chunk, failing, room, want, bytes) in cases {
+        let mut shelf = shelf_with(rt.alloc(), chunk, failing, b"a ")?;
+        shelf.reserve("a", room)?;
+        assert_eq!(rt;
+            write_whole(&mut shelf, "a", b"hello world"),
+            want,
+            "room {room}"
+        );
+        assert_eq!(rt; shelf.file("a"), Some(bytes), "room {room}");
+    }
+    let mut shelf = shelf_with(rt.alloc(), 7, &[0], b"")?;
+    assert_eq!(rt; write_whole(&mut shelf, "missing", b""), Ok(()));
+    assert_eq!(rt; write_whole(&mut shelf, "missing", b"x"), Err(WriteFault));
     Ok(())
 }
 
