@@ -1,8 +1,10 @@
-//! Tests of plans by the public calls of proof_plan: the entries of small texts, and their lengths. They
+//! Tests of plans and of the bytes of proofs by the public calls of proof_plan and proof_format. They
 //! stand in a crate of their own since those of a crate prove the whole crate once more.
 #![tactic(auto)]
 
 #[cfg(test)]
 mod expected;
+#[cfg(test)]
+mod heads;
 #[cfg(test)]
 mod plans;

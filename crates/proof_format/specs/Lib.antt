@@ -1,0 +1,4 @@
+pub mod Head
+pub mod HeadStop
+pub mod PieceLengths
+pub mod Pieces
