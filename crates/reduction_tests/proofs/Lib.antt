@@ -1,5 +1,6 @@
-pub mod Awaits
 pub mod Begins
+pub mod Channels
 pub mod Claims
 pub mod Ends
+pub mod Flushes
 pub mod Terms

@@ -1,11 +1,12 @@
 //! What the tests of all reductions are given.
 
-ghost use Rattle.std.specs.Prelude.{◌≡◌};
+ghost use Rattle.std.specs.Prelude.{◌≡◌, ℕ, ◌≤◌, IsTrue, length, slice_index};
+ghost use Rattle.table_shape.specs.Limits.{max_rows};
 
 use std::alloc::{AllocError, Global};
 use std::test::Fail;
 use sumcheck::{ColumnClaim, ColumnTables};
-use table_shape::{Shape, resolve};
+use table_shape::{MAX_ROWS, Shape, resolve};
 use table_text::read_tables;
 use tower_field::{B128, Tower};
 
@@ -15,6 +16,12 @@ pub struct Lack;
 
 impl From<AllocError> for Lack {
     fn from(_: AllocError) -> Lack {
+        Lack
+    }
+}
+
+impl From<channel_products::NoMemory> for Lack {
+    fn from(_: channel_products::NoMemory) -> Lack {
         Lack
     }
 }
@@ -68,15 +75,55 @@ pub fn shape_of(alloc: Global, text: &[u8]) -> Result<Shape, Fail> {
     Ok(resolve(alloc, &read_tables(alloc, text)?)?)
 }
 
+/// Whether no table has more rows than it may have.
+fn are_few(rows: &[u32]) -> bool
+    ensures { IsTrue result → (t : ℕ) → slice_index rows.now t ≤ max_rows }
+{
+    for n in rows {
+        if *n > MAX_ROWS {
+            return false;
+        }
+    }
+    true
+}
+
+/// Whether each table has a number of rows, and none too many.
+pub fn rows_fit(shape: &Shape, rows: &[u32]) -> bool
+    ensures counts { IsTrue result → length rows.now ≡ length shape.now.tables }
+    ensures few { IsTrue result → (t : ℕ) → slice_index rows.now t ≤ max_rows }
+{
+    rows.len() == shape.tables().len() && are_few(rows)
+}
+
+/// Adds lists of elements for the first columns of a table.
+fn add_lists(
+    alloc: Global,
+    table: u32,
+    lists: &[&[u64]],
+    tables: &mut ColumnTables,
+) -> Result<(), Lack> {
+    for c in 0..lists.len().min(256) {
+        if tables.get(table, c as u32).is_some() {
+            return Err(Lack);
+        }
+        tables.add(table, c as u32, elements(alloc, lists[c])?)?;
+    }
+    Ok(())
+}
+
+/// Lists of elements for the first columns of each table.
+pub fn given_tables(alloc: Global, lists: &[&[&[u64]]]) -> Result<ColumnTables, Lack> {
+    let mut tables = ColumnTables::new(alloc);
+    for t in 0..lists.len().min(64) {
+        add_lists(alloc, t as u32, lists[t], &mut tables)?;
+    }
+    Ok(tables)
+}
+
 /// Lists of elements for the first columns of the first table.
 pub fn given_lists(alloc: Global, lists: &[&[u64]]) -> Result<ColumnTables, Lack> {
     let mut tables = ColumnTables::new(alloc);
-    for c in 0..lists.len().min(256) {
-        if tables.get(0, c as u32).is_some() {
-            return Err(Lack);
-        }
-        tables.add(0, c as u32, elements(alloc, lists[c])?)?;
-    }
+    add_lists(alloc, 0, lists, &mut tables)?;
     Ok(tables)
 }
 

@@ -10,76 +10,15 @@ ghost use Rattle.zerocheck.specs.Group.{Group as Constraints, group_of};
 ghost use Rattle.zerocheck.specs.Zero.{summed};
 ghost use Rattle.zerocheck.specs.ZeroProver.{FollowsZero};
 
-use crate::given::{Lack, agreed, element, given_lists, shape_of};
+use crate::given::{Lack, agreed, given_lists, shape_of};
+use crate::giving::{Given, run};
 use sqlite_items::at;
 use std::alloc::Global;
 use std::test::Fail;
-use sumcheck::{ColumnTables, Entry, Steps};
+use sumcheck::{ColumnTables, Reduction, Stopping};
 use table_shape::Shape;
-use tower_field::B128;
 use walk_example::meet;
 use zerocheck::{ZeroProver, ZeroWalk, has_group, has_lists};
-
-/// What is given to a walk.
-#[derive(Clone, Copy)]
-enum Given<'a> {
-    Draw(u64),
-    Message(&'a [u64]),
-}
-
-/// Gives a walk one draw: whether one is due.
-fn give_draw(walk: &mut ZeroWalk, c: u64) -> bool {
-    let Some(entry) = walk.due() else {
-        return false;
-    };
-    match entry {
-        Entry::Draw { .. } => {
-            walk.draw(element(c));
-            true
-        }
-        Entry::Message { .. } => false,
-    }
-}
-
-/// Gives a walk one message: whether one so long is due, and passes.
-fn give_message(walk: &mut ZeroWalk, values: &[B128]) -> bool {
-    let Some(entry) = walk.due() else {
-        return false;
-    };
-    match entry {
-        Entry::Draw { .. } => false,
-        Entry::Message { length, .. } => {
-            values.len() == length as usize && walk.message(values).is_ok()
-        }
-    }
-}
-
-/// Gives a walk one entry: whether it is due, and passes.
-fn give(walk: &mut ZeroWalk, given: Given<'_>, values: &mut Vec<B128>) -> Result<bool, Lack> {
-    match given {
-        Given::Draw(c) => Ok(give_draw(walk, c)),
-        Given::Message(numbers) => {
-            values.clear();
-            for n in numbers {
-                if values.push(element(*n)).is_err() {
-                    return Err(Lack);
-                }
-            }
-            Ok(give_message(walk, values.as_slice()))
-        }
-    }
-}
-
-/// How many of the entries pass, up to the first that doesn't, and how many claims are pending then.
-fn passes(alloc: Global, mut walk: ZeroWalk, given: &[Given<'_>]) -> Result<(usize, u32), Lack> {
-    let mut values = Vec::new(alloc);
-    for k in 0..given.len() {
-        if !give(&mut walk, given[k], &mut values)? {
-            return Ok((k, walk.pending_count()));
-        }
-    }
-    Ok((given.len(), walk.pending_count()))
-}
 
 /// The walk of the first constraint's group of the first table, once the claim is stated.
 fn stated(alloc: Global, shape: &Shape, rows: u32) -> Result<Option<ZeroWalk>, Lack>
@@ -98,7 +37,12 @@ fn stated(alloc: Global, shape: &Shape, rows: u32) -> Result<Option<ZeroWalk>, L
 
 /// What is given to the walk of a text's first constraint: how many entries pass, and how many claims
 /// are pending then.
-fn run(alloc: Global, text: &[u8], rows: u32, given: &[Given<'_>]) -> Result<(usize, u32), Fail> {
+fn passes(
+    alloc: Global,
+    text: &[u8],
+    rows: u32,
+    given: &[Given<'_>],
+) -> Result<(usize, u32), Fail> {
     if rows > 100 {
         return Err(Fail::from(Lack));
     }
@@ -106,7 +50,9 @@ fn run(alloc: Global, text: &[u8], rows: u32, given: &[Given<'_>]) -> Result<(us
     let Some(walk) = stated(alloc, &shape, rows)? else {
         return Ok((0, 0));
     };
-    Ok(passes(alloc, walk, given)?)
+    let mut constraints = Stopping::new(walk);
+    let (passed, _) = run(alloc, &mut constraints, given)?;
+    Ok((passed, constraints.pending_count()))
 }
 
 const ONE: &[u8] = b"table t { column a : b2; zero z : a; }";
@@ -136,10 +82,10 @@ fn one_constraint(rt: HostRuntime) -> Result<(), Fail> {
                 Given::Draw(5),
                 Given::Message(&[last]),
             ];
-            assert_eq!(rt; run(alloc, text, rows, &given)?, (passed, 1));
+            assert_eq!(rt; passes(alloc, text, rows, &given)?, (passed, 1));
         }
         let given = [Given::Draw(0), Given::Message(&[0, 0, 0, 0])];
-        assert_eq!(rt; run(alloc, text, rows, &given)?, (1, 1));
+        assert_eq!(rt; passes(alloc, text, rows, &given)?, (1, 1));
     }
     Ok(())
 }
@@ -157,9 +103,9 @@ fn a_row_of_padding(rt: HostRuntime) -> Result<(), Fail> {
         Given::Draw(12),
         Given::Message(&[4]),
     ];
-    assert_eq!(rt; run(rt.alloc(), ONE, 3, &given)?, (8, 1));
+    assert_eq!(rt; passes(rt.alloc(), ONE, 3, &given)?, (8, 1));
     // with a fourth row it is not 0
-    assert_eq!(rt; run(rt.alloc(), ONE, 4, &given)?, (7, 1));
+    assert_eq!(rt; passes(rt.alloc(), ONE, 4, &given)?, (7, 1));
     Ok(())
 }
 
@@ -176,7 +122,7 @@ fn two_constraints(rt: HostRuntime) -> Result<(), Fail> {
             Given::Draw(12),
             Given::Message(&values),
         ];
-        assert_eq!(rt; run(rt.alloc(), TWO, 3, &given)?, (passed, pending));
+        assert_eq!(rt; passes(rt.alloc(), TWO, 3, &given)?, (passed, pending));
     }
     Ok(())
 }
