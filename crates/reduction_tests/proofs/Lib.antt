@@ -1,6 +1,4 @@
 pub mod Begins
-pub mod Channels
 pub mod Claims
 pub mod Ends
-pub mod Flushes
 pub mod Terms

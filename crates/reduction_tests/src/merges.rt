@@ -3,9 +3,9 @@
 ghost use Rattle.std.specs.Prelude.{◌≡◌, ◌≤◌, ◌+◌, ◌∷◌, [], length, IfOk};
 ghost use Rattle.eval_reduce.specs.Merge.{points, AllOn};
 
-use crate::given::{Lack, agreed, element};
 use cube_mle::mle_at;
 use eval_reduce::{MergeProver, MergeWalk};
+use reduction_inputs::{Lack, agreed, element};
 use std::alloc::Global;
 use sumcheck::ColumnClaim;
 use tower_field::{B128, Tower, Values};
@@ -68,7 +68,7 @@ fn merge_some(
     error: u64,
     told: u64,
 ) -> Result<(u32, Option<u128>), Lack> {
-    let column = column.map(element);
+    let column = column.map(|n| element(n));
     let first = claim(alloc, &column, 40, 90, 0)?;
     let last = claim(alloc, &column, 41, 97, error)?;
     let own_first = claim(alloc, &column, 40, 90, 0)?;
@@ -120,7 +120,7 @@ fn merge_many(
 ) -> Result<(u32, Option<u128>), Lack>
     requires { (2 ≤ many) × (many ≤ 32) }
 {
-    let column = column.map(element);
+    let column = column.map(|n| element(n));
     let mut claims = Vec::new(alloc);
     let mut told = Vec::new(alloc);
     'claims: for k in 0..many {

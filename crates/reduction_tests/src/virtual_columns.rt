@@ -14,11 +14,11 @@ ghost use Rattle.eval_reduce.specs.Shift.{shifting_of};
 ghost use Rattle.eval_reduce.specs.ShiftProver.{FollowsShift};
 ghost use Rattle.eval_reduce.specs.Virtual.{IsOn, IsThere};
 
-use crate::given::{Lack, agreed, element, elements, given_lists, shape_of};
 use eval_reduce::{
     LinearProver, LinearStep, PackProver, PackWalk, ProjectProver, ProjectStep, ShiftProver,
     ShiftWalk, has_lists,
 };
+use reduction_inputs::{Lack, agreed, element, elements, given_lists, shape_of};
 use sqlite_items::at;
 use std::alloc::Global;
 use std::test::Fail;

@@ -10,8 +10,7 @@ ghost use Rattle.zerocheck.specs.Group.{Group as Constraints, group_of};
 ghost use Rattle.zerocheck.specs.Zero.{summed};
 ghost use Rattle.zerocheck.specs.ZeroProver.{FollowsZero};
 
-use crate::given::{Lack, agreed, given_lists, shape_of};
-use crate::giving::{Given, run};
+use reduction_inputs::{Given, Lack, agreed, given_lists, run, shape_of};
 use sqlite_items::at;
 use std::alloc::Global;
 use std::test::Fail;

@@ -1,0 +1,6 @@
+//! What tests of claims on committed columns are given.
+#![tactic(auto)]
+
+mod committed;
+
+pub use committed::{Claimed, Column, claims_on, lists_of, table_of_bits};

@@ -1,0 +1,7 @@
+//! Tests of channel_products by its public calls, each walk beside its prover.
+#![tactic(auto)]
+
+#[cfg(test)]
+mod balances;
+#[cfg(test)]
+mod products;
