@@ -1,5 +1,6 @@
 //! The work of `crates/walk_bench` in plain Rust, by the same forms: three claims on a column merged,
-//! a claim on a shifted column, the carries of an adder, and the product of a flush layer by layer,
+//! a claim on a shifted column, the carries of an adder, the product of a flush layer by layer,
+//! claims on three columns of bits, and the value of the bits of words turned into one of the words,
 //! round by round with the same draws.
 //!
 //! `walks WORK LOG` prints the same number as the program of that crate.
@@ -195,6 +196,80 @@ fn product(log: u32) -> u128 {
     finals[3] ^ finals[4]
 }
 
+fn batch(log: u32) -> u128 {
+    let columns = [1, 2, 4].map(|seed| bits(log - 2, seed));
+    let points = [0, 1, 2].map(|j| (0..log as u128 - 2).map(|k| 100 * j + k).collect::<Vec<_>>());
+    let lambda: u128 = 7;
+    let (mut claim, mut power) = (0, 1);
+    let (mut weights, mut table) = (vec![], vec![]);
+    for (column, point) in columns.iter().zip(&points) {
+        claim ^= extension(column, point).times(power);
+        weights.extend(eq_table(point).into_iter().map(|value| value.times(power)));
+        table.extend(column);
+        power = power.times(lambda);
+    }
+    weights.resize(1 << log, 0);
+    table.resize(1 << log, 0);
+    let finals = rounds(&mut [weights, table], 2, claim, 9, |row| row[0].times(row[1]));
+    finals[1]
+}
+
+/// The sums of the weights of the words that have each bit, by buckets of bytes.
+fn columns(weights: &[u128], words: &[u128]) -> Vec<u128> {
+    let mut buckets = vec![0; 4096];
+    let table: &mut [u128; 4096] = (&mut buckets[..]).try_into().unwrap();
+    for (weight, word) in weights.iter().zip(words) {
+        for place in 0..16 {
+            table[256 * place + (word >> (8 * place) & 255) as usize] ^= weight;
+        }
+    }
+    let mut all = vec![0; 128];
+    for place in 0..16 {
+        for bit in (0..8).rev() {
+            let half = 1 << bit;
+            for b in 0..half {
+                let upper = table[256 * place + half + b];
+                all[8 * place + bit] ^= upper;
+                table[256 * place + b] ^= upper;
+            }
+        }
+    }
+    all
+}
+
+/// Element u has the bits u of all elements.
+fn transposed(columns: &[u128]) -> Vec<u128> {
+    let row = |u: usize| (0..128).fold(0, |row, v| row | (columns[v] >> u & 1) << v);
+    (0..128).map(row).collect()
+}
+
+fn switch(log: u32) -> u128 {
+    let words: Vec<u128> = (0..1 << log).map(element).collect();
+    let point = point(log + 7, 100);
+    let (low, high) = point.split_at(7);
+    let value = extension(&columns(&eq_table(high), &words), low);
+    let message = columns(&eq_table(high), &words);
+    let rows = transposed(&message);
+    assert_eq!(extension(&transposed(&rows), low), value);
+    let draws: Vec<u128> = (8..15).collect();
+    let weights = eq_table(&draws);
+    let under = |cell: u128| {
+        let mut rest = cell;
+        let mut total = 0;
+        for weight in &weights {
+            if rest % 2 == 1 {
+                total ^= weight;
+            }
+            rest /= 2;
+        }
+        total
+    };
+    let table = eq_table(high).into_iter().map(under).collect();
+    let claim = extension(&rows, &draws);
+    let finals = rounds(&mut [table, words], 2, claim, 16, |row| row[0].times(row[1]));
+    finals[1]
+}
+
 fn main() {
     let words: Vec<String> = std::env::args().collect();
     let log = words[2].parse().unwrap();
@@ -202,6 +277,8 @@ fn main() {
         "merge" => merge(log),
         "shift" => shift(log),
         "product" => product(log),
+        "bits" => batch(log),
+        "switch" => switch(log),
         _ => zero(log),
     };
     println!("{value}");

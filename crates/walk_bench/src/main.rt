@@ -1,14 +1,19 @@
 //! Walks beside their provers, for timing. By the first word, over 2 ^ N values: three claims on a
 //! column merged (`merge`), a claim on a column shifted within blocks of 32 (`shift`), the carries
-//! of an adder of 32 bits (`zero`), or the product of a flush of 2 ^ N rows (`product`). Prints the
-//! sum of the last message.
+//! of an adder of 32 bits (`zero`), the product of a flush of 2 ^ N rows (`product`), claims on three
+//! columns whose bits stand in 2 ^ N places (`bits`), or the value of the bits of 2 ^ N words turned
+//! into one of the words (`switch`). Prints the sum of the last message.
 
 #![tactic(auto)]
 
-ghost use Rattle.std.specs.Prelude.{◌≡◌, ◌≤◌, ◌^◌, length, true, IfOk, IsSome, IsTrue, Some};
+ghost use Rattle.std.specs.Prelude.{◌≡◌, ◌≤◌, ◌+◌, ◌^◌, length, true, IfOk, IsSome, IsTrue, Some};
+ghost use Rattle.std.specs.List.{AllByRecursion};
 ghost use Rattle.sumcheck.specs.Machine.{Filling};
 ghost use Rattle.table_shape.specs.Limits.{max_rows};
+ghost use Rattle.table_shape.specs.Placement.{places_log};
 ghost use Rattle.table_shape.specs.declared.shape.FlushShape.{FlushShape as Flush};
+ghost use Rattle.bit_claim.specs.BatchFollowing.{FollowsBatch};
+ghost use Rattle.bit_claim.specs.Bits.{bits, IsPlaced};
 ghost use Rattle.channel_products.specs.DescentFields.{flush_in};
 ghost use Rattle.channel_products.specs.DescentProver.{FollowsProduct};
 ghost use Rattle.channel_products.specs.Given.{FlushIsThere};
@@ -18,13 +23,19 @@ ghost use Rattle.eval_reduce.specs.Merge.{AllOn};
 ghost use Rattle.eval_reduce.specs.Shift.{shifting_of};
 ghost use Rattle.eval_reduce.specs.ShiftProver.{FollowsShift};
 ghost use Rattle.eval_reduce.specs.Virtual.{IsOn, IsThere};
+ghost use Rattle.ring_switch.specs.SwitchProver.{FollowsSwitch};
 ghost use Rattle.zerocheck.specs.Given.{AreThere};
 ghost use Rattle.zerocheck.specs.Group.{Group as Constraints, group_of};
 ghost use Rattle.zerocheck.specs.ZeroProver.{FollowsZero};
 
+use bit_claim::{BitProver, BitWalk, Placement, place};
+use bit_inputs::{Claimed, claims_on, table_of_bits};
 use channel_products::{ProductProver, ProductWalk, collapse, leaf};
-use cube_mle::mle_at;
+use cube_mle::{eq_table, mle_at};
 use eval_reduce::{MergeProver, MergeWalk, ShiftProver, ShiftWalk};
+use packed_words::Buckets;
+use reduction_inputs::{Lack, rows_fit};
+use ring_switch::{SwitchProver, SwitchWalk};
 use sqlite_items::at;
 use std::alloc::Global;
 use std::{env, io};
@@ -55,10 +66,6 @@ fn bit(k: u64, seed: u64) -> B128 {
         B128::ZERO
     }
 }
-
-/// What a bench may lack.
-#[derive(Clone, Copy, PartialEq, Eq, Debug)]
-struct Lack;
 
 /// Elements `first`, `first` + 1, ..
 fn column(alloc: Global, log: u32, first: u64) -> Result<Vec<B128>, Lack>
@@ -378,6 +385,81 @@ fn shifted(alloc: Global, log: u32) -> Result<B128, Lack>
     meet_all(alloc, &mut walk, &mut prover)
 }
 
+const COMMITTED: &[u8] = b"table t { column a : b1 x 32; column b : b1 x 32; column c : b1 x 32; }";
+
+/// Lists of bits for the first three columns, 2 ^ log of each.
+fn bit_lists(alloc: Global, log: u32) -> Result<ColumnTables, Lack>
+    requires { log ≤ 20 }
+{
+    let mut tables = ColumnTables::new(alloc);
+    keep(&mut tables, 0, bits(alloc, log, 1)?)?;
+    keep(&mut tables, 1, bits(alloc, log, 2)?)?;
+    keep(&mut tables, 2, bits(alloc, log, 4)?)?;
+    Ok(tables)
+}
+
+/// The walk of claims on committed columns and its prover, the claims stated.
+fn begin_bits(
+    alloc: Global,
+    placement: &Placement,
+    table: &[B128],
+    claims: &[ColumnClaim],
+) -> Result<(BitWalk, BitProver), Lack>
+    requires whole { length table.now ≡ 2 ^ places_log placement.now }
+    requires bits { (F : Filling) × (bits F placement.now ≡ table.now) }
+    requires few { length claims.now ≤ 100 }
+    requires placed { AllByRecursion (IsPlaced placement.now) claims.now }
+    ensures { IfOk result (λ both. (F : Filling) × FollowsBatch both.1 F both.0) }
+{
+    let count = claims.len() as u32;
+    let Ok(mut walk) = BitWalk::begin(alloc, placement, count) else {
+        return Err(Lack);
+    };
+    walk.enter(claims);
+    let Ok(mut prover) = BitProver::begin(alloc, placement, count, table) else {
+        return Err(Lack);
+    };
+    prover.enter(claims);
+    Ok((walk, prover))
+}
+
+/// A claim on a column of the first table.
+fn claimed_at(column: u32) -> Claimed
+    requires { column ≤ 2 }
+{
+    Claimed {
+        table: 0,
+        column,
+        first: 100 * column,
+        error: 0,
+    }
+}
+
+/// A claim on each of three columns, whose bits stand in a table of 2 ^ log places.
+fn batched(alloc: Global, log: u32) -> Result<B128, Lack>
+    requires { (8 ≤ log) × (log ≤ 20) }
+{
+    let shape = shape_of(alloc, COMMITTED)?;
+    let rows = [rows_of(log - 7)];
+    if !rows_fit(&shape, &rows) {
+        return Err(Lack);
+    }
+    let Ok(placement) = place(alloc, &shape, &rows) else {
+        return Err(Lack);
+    };
+    let lists = bit_lists(alloc, log - 2)?;
+    let table = table_of_bits(alloc, &placement, &lists)?;
+    let told = [claimed_at(0), claimed_at(1), claimed_at(2)];
+    let claims = claims_on(alloc, &placement, &lists, &told)?;
+    let (mut walk, mut prover) = begin_bits(
+        alloc,
+        &placement,
+        table.as_slice(),
+        claims.as_slice(),
+    )?;
+    meet_all(alloc, &mut walk, &mut prover)
+}
+
 /// Whether the first table has a flush.
 fn has_flush(shape: &Shape) -> bool
     ensures { IsTrue result → IsSome (flush_in shape.now.tables 0 0) }
@@ -453,6 +535,64 @@ fn multiplied(alloc: Global, log: u32) -> Result<B128, Lack>
     meet_all(alloc, &mut walk, &mut prover)
 }
 
+/// The value of the bits of words at a point.
+fn value_of_bits(alloc: Global, words: &[B128], point: &[B128]) -> Result<B128, Lack>
+    requires { 7 ≤ length point.now }
+{
+    let Ok(weights) = eq_table(alloc, &point[7..]) else {
+        return Err(Lack);
+    };
+    let Ok(mut buckets) = Buckets::new(alloc) else {
+        return Err(Lack);
+    };
+    let columns = buckets.columns(weights.as_slice(), words);
+    match mle_at(alloc, &columns, &point[..7]) {
+        Ok(value) => Ok(value),
+        Err(_) => Err(Lack),
+    }
+}
+
+/// The walk of a ring switch over 2 ^ log words and its prover, the value stated.
+fn begin_switch(
+    alloc: Global,
+    log: u32,
+    words: &[B128],
+    point: &[B128],
+    value: B128,
+) -> Result<(SwitchWalk, SwitchProver), Lack>
+    requires size { (1 ≤ log) × (log ≤ 17) }
+    requires whole { length words.now ≡ 2 ^ log }
+    requires long { length point.now ≡ log + 7 }
+    ensures { IfOk result (λ both. (F : Filling) × FollowsSwitch both.1 F both.0) }
+{
+    let Ok(mut walk) = SwitchWalk::begin(alloc, log + 7) else {
+        return Err(Lack);
+    };
+    walk.enter(point, value);
+    let Ok(mut prover) = SwitchProver::begin(alloc, log + 7, words) else {
+        return Err(Lack);
+    };
+    prover.enter(point, value);
+    Ok((walk, prover))
+}
+
+/// The value of the bits of 2 ^ log words, turned into one of the words.
+fn switched(alloc: Global, log: u32) -> Result<B128, Lack>
+    requires { (1 ≤ log) × (log ≤ 17) }
+{
+    let words = column(alloc, log, 0)?;
+    let point = point(alloc, log + 7, 100)?;
+    let value = value_of_bits(alloc, words.as_slice(), point.as_slice())?;
+    let (mut walk, mut prover) = begin_switch(
+        alloc,
+        log,
+        words.as_slice(),
+        point.as_slice(),
+        value,
+    )?;
+    meet_all(alloc, &mut walk, &mut prover)
+}
+
 fn main(rt: HostRuntime) -> io::Result<()> {
     let mut words = env::args(&rt)?;
     let _program = words.next();
@@ -470,6 +610,10 @@ fn main(rt: HostRuntime) -> io::Result<()> {
         "merge" => merged(rt.alloc(), log),
         "shift" => shifted(rt.alloc(), log),
         "product" => multiplied(rt.alloc(), log),
+        "bits" if log >= 8 => batched(rt.alloc(), log),
+        "bits" => Err(Lack),
+        "switch" if log <= 17 => switched(rt.alloc(), log),
+        "switch" => Err(Lack),
         _ => carries(rt.alloc(), log),
     };
     match value {
