@@ -1,0 +1,4 @@
+pub mod Chain
+pub mod LawfulChain
+pub mod SameSteps
+pub mod Following
