@@ -94,7 +94,7 @@ sum_lawful = record {
   size = λ F t z. refl;
   told = λ F t z f. refl;
   tells = λ F t z v f l h. one_value v l ∙ ap (λ x. x ∷ []) (sym h);
-  closed_fits = λ F t z v f l. f.1.0 ∙ ap (λ n. 2 ^ n) f.0;
+  closed_fits = λ F t z v f l. (f.1.0 ∙ ap (λ n. 2 ^ n) f.0, f.0);
   next = λ t z v l. refl;
 }
 

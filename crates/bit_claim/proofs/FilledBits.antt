@@ -35,7 +35,7 @@ use Rattle.bit_claim.proofs.Standing.{held, stand}
 use Rattle.bit_claim.proofs.TablePlaces.{part_fits, positive}
 
 -- ---- the bits of blocks
-length-bits_of_table : (n : ℕ) (table : List ℕ) → length (bits_of_table n table) ≡ length table * n
+pub length-bits_of_table : (n : ℕ) (table : List ℕ) → length (bits_of_table n table) ≡ length table * n
 length-bits_of_table n [] = omega arith
 length-bits_of_table n (t ∷ table) =
     let more : suc (length table) * n ≡ n + length table * n = grind (arith) in

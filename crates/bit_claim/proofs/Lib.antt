@@ -10,3 +10,6 @@ pub mod WalkSteps
 pub mod TablePlaces
 pub mod ProverSteps
 pub mod FilledBits
+pub mod WordSums
+pub mod WordRounds
+pub mod PairSteps

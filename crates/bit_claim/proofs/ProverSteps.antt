@@ -14,7 +14,8 @@ use Rattle.sumcheck.specs.Pair.{pair_form}
 use Rattle.sumcheck.proofs.Following.{draw_sets, goes_first, goes_last, goes_passed, goes_round}
 use Rattle.table_shape.specs.Placement.{Block, places_log}
 use Rattle.bit_claim.specs.declared.bit_prover.BitProver.{BitProver}
-use Rattle.bit_claim.specs.BatchFollowing.{FollowsBatch, FollowsSum, Gives, GoesOn, IsNew, Ready, places, second}
+use Rattle.bit_claim.specs.BatchFollowing.{FollowsBatch, FollowsSum, Gives, GoesOn, IsNew, Ready, places}
+use Rattle.bit_claim.specs.BatchSum.{second}
 use Rattle.bit_claim.specs.Batching.{Batched, Batching, waiting, opening, summed, batch_sum, batching_draw, batching_entries, batching_honest, batching_message}
 use Rattle.bit_claim.specs.Bits.{bits, claim_table}
 
@@ -45,21 +46,21 @@ claimed_is n (round_claim d m z v) h = absurd (cc)
 from_none : (n : ℕ) → 0 + n ≡ n
 from_none n = omega arith
 
-start_goes : (p : BitProver) (F : Filling) (t : Batched) (c : ℕ) → p.batched.lambda ≡ t.lambda → Ready p F t.blocks t.claims → AllLong (2 ^ places_log p.batched.blocks) (begun p.batched p.bits.items).lists
-    → Goes pair_form (begun p.batched p.bits.items) (batch_sum.sum F t) (sum_claim 2 (places_log t.blocks) [] c)
+start_goes : (p : BitProver) (F : Filling) (t : Batched) (c : ℕ) → p.batched.lambda ≡ t.lambda → Ready p F t.blocks t.claims → AllLong (2 ^ places_log p.batched.blocks) (begun p.batched p.bits).lists
+    → Goes pair_form (begun p.batched p.bits) (batch_sum.sum F t) (sum_claim 2 (places_log t.blocks) [] c)
 start_goes p F t c e h long =
     let tables = λ (bs : List Block). same_tables bs p.batched.claims t.claims h.claims in
-    let lists : (begun p.batched p.bits.items).lists ≡ (batch_sum.sum F t).lists = (λ i. batched (2 ^ places_log (h.blocks i)) (e i) (map (claim_table (h.blocks i)) p.batched.claims) ∷ h.held i ∷ []) ∙ (λ i. batched (2 ^ places_log t.blocks) t.lambda (tables t.blocks i) ∷ bits F t.blocks ∷ []) in
-    goes_first pair_form (begun p.batched p.bits.items) (batch_sum.sum F t) 2 (places_log t.blocks) c refl refl (ap places_log h.blocks) lists
-    (subst (AllLong (2 ^ places_log t.blocks)) lists (subst (λ (bs : List Block). AllLong (2 ^ places_log bs) (begun p.batched p.bits.items).lists) h.blocks long))
+    let lists : (begun p.batched p.bits).lists ≡ (batch_sum.sum F t).lists = (λ i. batched (2 ^ places_log (h.blocks i)) (e i) (map (claim_table (h.blocks i)) p.batched.claims) ∷ h.held i ∷ []) ∙ (λ i. batched (2 ^ places_log t.blocks) t.lambda (tables t.blocks i) ∷ bits F t.blocks ∷ []) in
+    goes_first pair_form (begun p.batched p.bits) (batch_sum.sum F t) 2 (places_log t.blocks) c refl refl (ap places_log h.blocks) lists
+    (subst (AllLong (2 ^ places_log t.blocks)) lists (subst (λ (bs : List Block). AllLong (2 ^ places_log bs) (begun p.batched p.bits).lists) h.blocks long))
 
-pub start_follows : (p next : BitProver) (q : Proving Pair) → next.draws ≡ p.draws → q ≡ begun p.batched p.bits.items → AllLong (2 ^ places_log p.batched.blocks) q.lists → (F : Filling) (s : Batching) → FollowsSum p None F s → AwaitsSome (batching_entries s) → FollowsSum next (Some q) F s
+pub start_follows : (p next : BitProver) (q : Proving Pair) → next.draws ≡ p.draws → q ≡ begun p.batched p.bits → AllLong (2 ^ places_log p.batched.blocks) q.lists → (F : Filling) (s : Batching) → FollowsSum p None F s → AwaitsSome (batching_entries s) → FollowsSum next (Some q) F s
 start_follows p next q d e long F (waiting bs m) h w = absurd h
 start_follows p next q d e long F (opening bs cs) h w = absurd w
 start_follows p next q d e long F (summed (closed b)) h w = absurd h
 start_follows p next q d e long F (summed (adding t r)) h w =
     subst (λ q. GoesOn next q F t r) (sym e)
-    (subst (GoesOn next (begun p.batched p.bits.items) F t) (sym (claimed_is (places_log t.blocks) r h.0.1))
+    (subst (GoesOn next (begun p.batched p.bits) F t) (sym (claimed_is (places_log t.blocks) r h.0.1))
     (record {
       goes = start_goes p F t (claimed r) h.0.0 h.1 (subst (λ q. AllLong (2 ^ places_log p.batched.blocks) q.lists) e long);
       draws = ap (λ v. v.items) d ∙ h.1.draws;
@@ -135,13 +136,13 @@ message_follows now next p told old new g e v F (summed (adding t (round_claim d
 
 -- ---- claims that are entered
 pub entered : (p next : BitProver) (bs : List Block) (ds : List ColumnClaim) → IsNew bs p → next.batched ≡ record p.batched { claims = ds } → next.bits ≡ p.bits → next.sum ≡ p.sum → next.draws ≡ p.draws
-    → (F : Filling) (cs : List ColumnClaim) → places cs ≡ places ds → bits F bs ≡ p.bits.items → FollowsBatch next F (opening bs cs)
+    → (F : Filling) (cs : List ColumnClaim) → places cs ≡ places ds → bits F bs ≡ p.bits → FollowsBatch next F (opening bs cs)
 entered p next bs ds new b l s d F cs at held =
     subst (λ o. FollowsSum next o F (opening bs cs)) (sym (s ∙ new.none))
     (record {
       blocks = ap (λ (t : Batched). t.blocks) b ∙ new.blocks;
       claims = ap (λ (t : Batched). places t.claims) b ∙ sym at;
-      held = ap (λ v. v.items) l ∙ sym held;
+      held = l ∙ sym held;
       whole = ap length held ∙ new.whole;
       draws = ap (λ v. v.items) d ∙ new.draws;
       memory = subst (λ v. places_log bs ≤ vec_capacity v) (sym d) new.memory;

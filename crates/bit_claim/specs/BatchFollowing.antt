@@ -1,6 +1,6 @@
 -- A prover of a batch goes along with its walk, whatever values are claimed.
 -- Source: docs/REDUCTIONS.md, "Bits of columns".
-use Rattle.std.specs.Prelude.{◌≡◌, ◌≤◌, ◌^◌, ℕ, suc, List, [], ◌∷◌, ◌++◌, get_or, length, map, vec_capacity, Option, None, Some}
+use Rattle.std.specs.Prelude.{◌≡◌, ◌≤◌, ◌^◌, ℕ, suc, List, [], ◌∷◌, ◌++◌, length, map, vec_capacity, Option, None, Some}
 use Rattle.cube_laws.specs.Extension.{extension}
 use Rattle.sumcheck.specs.declared.column_claim.ColumnClaim.{ColumnClaim}
 use Rattle.sumcheck.specs.declared.summand.Pair.{Pair}
@@ -11,6 +11,7 @@ use Rattle.sumcheck.specs.Rounds.{Rounds, bound, sum_claim, true_round, variable
 use Rattle.sumcheck.specs.Summing.{adding, closed}
 use Rattle.table_shape.specs.Placement.{Block, places_log}
 use Rattle.bit_claim.specs.declared.bit_prover.BitProver.{BitProver}
+use Rattle.bit_claim.specs.BatchSum.{second}
 use Rattle.bit_claim.specs.Batching.{Batched, Batching, BitValue, waiting, opening, summed, batch_sum}
 use Rattle.bit_claim.specs.Bits.{bits}
 
@@ -24,7 +25,7 @@ places cs = map without_value cs
 -- a prover for columns of these blocks, before the claims are stated
 pub record IsNew (bs : List Block) (p : BitProver) : Type 0 where
   pub blocks : p.batched.blocks ≡ bs
-  pub whole : length p.bits.items ≡ 2 ^ places_log bs
+  pub whole : length p.bits ≡ 2 ^ places_log bs
   pub none : p.sum ≡ None
   pub draws : p.draws.items ≡ []
   pub memory : places_log bs ≤ vec_capacity p.draws
@@ -33,7 +34,7 @@ pub record IsNew (bs : List Block) (p : BitProver) : Type 0 where
 pub record Ready (p : BitProver) (F : Filling) (bs : List Block) (cs : List ColumnClaim) : Type 0 where
   pub blocks : p.batched.blocks ≡ bs
   pub claims : places p.batched.claims ≡ places cs
-  pub held : p.bits.items ≡ bits F bs
+  pub held : p.bits ≡ bits F bs
   pub whole : length (bits F bs) ≡ 2 ^ places_log bs
   pub draws : p.draws.items ≡ []
   pub memory : places_log bs ≤ vec_capacity p.draws
@@ -64,9 +65,6 @@ abbrev pub FollowsBatch : BitProver → Filling → Batching → Type 0
 FollowsBatch p F s = FollowsSum p p.sum F s
 
 -- ---- a message
-abbrev pub second : Proving Pair → ℕ
-second q = get_or (get_or q.lists 1 []) 0 0
-
 -- a round; or where none is left the value of the second table
 pub record Gives (q : Proving Pair) (told : Option ℕ) (old new : List ℕ) : Type 0 where
   pub round : (n : ℕ) → q.left ≡ suc n → (new ≡ old ++ true_round (sum_of pair_form q) q.degree n []) × (told ≡ None)

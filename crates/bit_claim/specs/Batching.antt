@@ -50,7 +50,7 @@ batch_sum = record {
   left = λ t z v. mul (horner (map (claim_at t.blocks z) t.claims) t.lambda) (slice_index v 0);
   finals = λ F t z. extension (bits F t.blocks) z ∷ [];
   closed = λ t z v. record { blocks = t.blocks; point = z; value = slice_index v 0 };
-  closed_fits = λ F b. length (bits F b.blocks) ≡ 2 ^ length b.point;
+  closed_fits = λ F b. (length (bits F b.blocks) ≡ 2 ^ length b.point) × (places_log b.blocks ≡ length b.point);
   closed_holds = λ F b. extension (bits F b.blocks) b.point ≡ b.value;
   closed_pending = λ b. bit_value b.point b.value ∷ [];
   rest = λ t. [];

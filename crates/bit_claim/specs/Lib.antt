@@ -4,4 +4,7 @@ pub mod Bits
 pub mod Batching
 pub mod Filled
 pub mod BitWalk
+pub mod BitTable
+pub mod BatchSum
 pub mod BatchFollowing
+pub mod Pairs

@@ -1,6 +1,6 @@
 //! The prover of a batch of claims.
 
-ghost use Rattle.std.specs.Prelude.{◌≡◌, ℕ, ◌≤◌, ◌^◌, ◌∷◌, [], length, map, is_some, true, List, IfOk};
+ghost use Rattle.std.specs.Prelude.{◌≡◌, ℕ, ◌≤◌, ◌*◌, ◌^◌, ◌∷◌, [], length, map, is_some, true, List, IfOk};
 ghost use Rattle.std.specs.List.{AllByRecursion};
 ghost use Rattle.cube_laws.specs.Extension.{extension};
 ghost use Rattle.cube_laws.specs.SumClaim.{AllLong};
@@ -9,19 +9,21 @@ ghost use Rattle.sumcheck.specs.declared.column_claim.ColumnClaim.{ColumnClaim a
 ghost use Rattle.sumcheck.specs.Machine.{AwaitsSome, Filling};
 ghost use Rattle.sumcheck.specs.Summing.{closed};
 ghost use Rattle.table_shape.specs.Placement.{places_log};
+ghost use Rattle.tensor_laws.specs.Tensor.{bits_of_table};
 ghost use Rattle.bit_claim.specs.BatchFollowing.{FollowsBatch, Gives, IsNew, places};
 ghost use Rattle.bit_claim.specs.Batching.{Batching, BitValue as OnBits, batching_entries, opening, summed};
 ghost use Rattle.bit_claim.specs.Bits.{bits, claim_table, IsPlaced};
 
-use crate::batch_table::batch_table;
 use crate::batched::Batched;
+use crate::bit_sum::BitSum;
+use crate::bit_table::BitTable;
 use crate::bit_walk::BitWalk;
 use crate::no_memory::NoMemory;
 use crate::placement::Placement;
 use crate::room::Room;
 use std::alloc::Global;
-use sumcheck::{ColumnClaim, Honest, Pair, SumProver, Tables128};
-use tower_field::{B128, Tower, Values};
+use sumcheck::{ColumnClaim, Honest};
+use tower_field::{B128, Tower};
 
 /// The prover of a batch, who makes the table of the claims with the first message, and has at the end
 /// the claim on the table of bits with its true value.
@@ -30,36 +32,21 @@ pub struct BitProver {
     alloc: Global,
     batched: Batched,
     room: Room,
-    bits: Vec<B128>,
-    sum: Option<SumProver<Pair>>,
+    bits: BitTable,
+    sum: Option<BitSum>,
     draws: Vec<B128>,
     value: B128,
 }
 
-/// The prover of the sum, with its tables.
-fn begin_sum(alloc: Global, batch: &Batched, bits: Vec<B128>) -> Result<SumProver<Pair>, NoMemory>
-    requires { length bits.items ≡ 2 ^ places_log batch.now.blocks }
-    ensures sum { IfOk result (λ p. p ≡ record { summand = record {}; degree = 2; left = places_log batch.now.blocks; lists = batched (2 ^ places_log batch.now.blocks) batch.now.lambda (map (claim_table batch.now.blocks) batch.now.claims) ∷ bits.items ∷ [] }) }
-    ensures long { IfOk result (λ p. AllLong (2 ^ places_log batch.now.blocks) p.lists) }
-{
-    let table = batch_table(alloc, batch)?;
-    let mut tables = Tables128::new(alloc);
-    tables.push(Values::from_vec(table))?;
-    tables.push(Values::from_vec(bits))?;
-    let sum = SumProver::begin(alloc, Pair, 2, tables)?;
-    Ok(sum)
-}
-
 /// Appends a round, or the last message, and answers the value that this tells.
-fn give(sum: &SumProver<Pair>, out: &mut Vec<B128>) -> Result<Option<B128>, sumcheck::NoMemory>
-    requires { length sum.now.lists ≡ 2 }
+fn give(sum: &BitSum, out: &mut Vec<B128>) -> Result<Option<B128>, sumcheck::NoMemory>
     ensures { IfOk result (λ told. Gives sum.now told out.old.items out.new.items) }
 {
     if sum.left() > 0 {
         sum.round(out)?;
         return Ok(None);
     }
-    let value = sum.finals()[1];
+    let value = sum.bits_value();
     if out.push(value).is_err() {
         return Err(sumcheck::NoMemory);
     }
@@ -78,13 +65,46 @@ impl BitProver {
         requires { length bits.now ≡ 2 ^ places_log placement.now }
         ensures new { IfOk result (λ prover. IsNew placement.now prover) }
         ensures room { IfOk result (λ prover. prover.room ≡ claims) }
-        ensures bits { IfOk result (λ prover. prover.bits.items ≡ bits.now) }
+        ensures bits { IfOk result (λ prover. prover.bits ≡ bits.now) }
+    {
+        let held = Vec::from_slice(alloc, bits)?;
+        BitProver::begin_with(alloc, placement, claims, BitTable::of_elements(held))
+    }
+
+    /// The same from the packed table: word w has the bits of places 128·w to 128·w + 127, the lowest
+    /// first. It keeps the words until its first message, which unpacks them.
+    pub fn begin_packed(
+        alloc: Global,
+        placement: &Placement,
+        claims: u32,
+        words: &[B128],
+    ) -> Result<BitProver, NoMemory>
+        requires whole { 128 * length words.now ≡ 2 ^ places_log placement.now }
+        ensures new { IfOk result (λ prover. IsNew placement.now prover) }
+        ensures room { IfOk result (λ prover. prover.room ≡ claims) }
+        ensures bits { IfOk result (λ prover. prover.bits ≡ bits_of_table 128 words.now) }
+    {
+        let held = Vec::from_slice(alloc, words)?;
+        BitProver::begin_with(alloc, placement, claims, BitTable::of_words(held))
+    }
+
+    /// The same from a table that is its own.
+    fn begin_with(
+        alloc: Global,
+        placement: &Placement,
+        claims: u32,
+        bits: BitTable,
+    ) -> Result<BitProver, NoMemory>
+        requires { length bits ≡ 2 ^ places_log placement.now }
+        ensures new { IfOk result (λ prover. IsNew placement.now prover) }
+        ensures room { IfOk result (λ prover. prover.room ≡ claims) }
+        ensures bits { IfOk result (λ prover. prover.bits ≡ bits) }
     {
         Ok(BitProver {
             alloc,
             batched: Batched::none(alloc, placement.copy(alloc)?),
             room: Room::begin(alloc, claims)?,
-            bits: Vec::from_slice(alloc, bits)?,
+            bits,
             sum: None,
             draws: Vec::with_capacity(alloc, placement.vars() as usize)?,
             value: B128::ZERO,
@@ -96,7 +116,7 @@ impl BitProver {
         requires new { IsNew self.old.batched.blocks self.old }
         requires placed { AllByRecursion (IsPlaced self.old.batched.blocks) claims.now }
         requires room { length claims.now ≤ self.old.room }
-        ensures { (F : Filling) (cs : List Claim) → places cs ≡ places claims.now → bits F self.old.batched.blocks ≡ self.old.bits.items → FollowsBatch self.new F (opening self.old.batched.blocks cs) }
+        ensures { (F : Filling) (cs : List Claim) → places cs ≡ places claims.now → bits F self.old.batched.blocks ≡ self.old.bits → FollowsBatch self.new F (opening self.old.batched.blocks cs) }
     {
         self.batched.placement().points_are_short(claims);
         let copies = self.room.fill(self.alloc, claims);
@@ -107,7 +127,7 @@ impl BitProver {
     pub fn enter_owned(&mut self, claims: Vec<ColumnClaim>)
         requires new { IsNew self.old.batched.blocks self.old }
         requires placed { AllByRecursion (IsPlaced self.old.batched.blocks) claims.items }
-        ensures { (F : Filling) (cs : List Claim) → places cs ≡ places claims.items → bits F self.old.batched.blocks ≡ self.old.bits.items → FollowsBatch self.new F (opening self.old.batched.blocks cs) }
+        ensures { (F : Filling) (cs : List Claim) → places cs ≡ places claims.items → bits F self.old.batched.blocks ≡ self.old.bits → FollowsBatch self.new F (opening self.old.batched.blocks cs) }
     {
         self.batched.enter(claims);
     }
@@ -130,8 +150,8 @@ impl BitProver {
         if self.sum.is_some() {
             return Ok(());
         }
-        let bits = std::mem::replace(&mut self.bits, Vec::new(self.alloc));
-        let sum = begin_sum(self.alloc, &self.batched, bits)?;
+        let bits = std::mem::replace(&mut self.bits, BitTable::of_elements(Vec::new(self.alloc)));
+        let sum = BitSum::begin(self.alloc, &self.batched, bits)?;
         self.sum = Some(sum);
         Ok(())
     }

@@ -94,10 +94,10 @@ impl BitWalk {
         }
     }
 
-    /// The same, in its memory.
-    pub fn leave(self) -> (Vec<B128>, B128)
+    /// The claim at the end.
+    pub fn leave(self) -> BitValue
         requires { IsDone self }
-        ensures { (b : OnBits) → self ≡ summed (closed b) → (result.0.items ≡ b.point) × (result.1 ≡ b.value) }
+        ensures { self ≡ summed (closed result) }
     {
         let BitWalk {
             alloc: _,
@@ -108,7 +108,7 @@ impl BitWalk {
             room: _,
         } = self;
         match closed {
-            Some(claim) => claim.into_parts(),
+            Some(claim) => claim,
             None => unreachable!(),
         }
     }

@@ -5,15 +5,19 @@
 mod batch_table;
 mod batched;
 mod bit_prover;
+mod bit_sum;
+mod bit_table;
 mod bit_value;
 mod bit_walk;
 mod laws;
 mod no_memory;
+mod pairs;
 mod part;
 mod placement;
 mod room;
 
 pub use bit_prover::BitProver;
+pub use bit_value::BitValue;
 pub use bit_walk::BitWalk;
 pub use laws::{batches_keep_truth, blocks_stand_apart};
 pub use no_memory::NoMemory;

@@ -60,7 +60,7 @@ fn left_alike(walk: BitWalk, prover: &BitProver) -> Option<(Vec<B128>, B128)>
     if told_point != own_point || told != own {
         return None;
     }
-    let (point, value) = walk.leave();
+    let (point, value) = walk.leave().into_parts();
     if point.as_slice() == own_point && value == own {
         Some((point, value))
     } else {

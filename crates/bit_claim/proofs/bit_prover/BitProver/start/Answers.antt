@@ -10,5 +10,5 @@ pub returns-clause-follows : goal.returns-clause-follows
 returns-clause-follows c = λ F s h w.
     let p : BitProver = c.args.self.now in
     let none : p.sum ≡ None = none_of p.sum (sym c.is_some.ensures ∙ c.if-is_some.false) in
-    start_follows p (record p { bits = c.replace-bits.new.dest; sum = Some c.in_ok-sum.sum }) c.in_ok-sum.sum refl (c.in_ok-sum.ensures.sum ∙ ap (λ v. begun p.batched v.items) c.replace-bits.ensures.value) c.in_ok-sum.ensures.long F s
+    start_follows p (record p { bits = c.replace-bits.new.dest; sum = Some c.in_ok-sum.sum }) c.in_ok-sum.sum refl (c.in_ok-sum.ensures.sum ∙ ap (begun p.batched) c.replace-bits.ensures.value) c.in_ok-sum.ensures.long F s
     (subst (λ (o : Option (Proving Pair)). FollowsSum p o F s) none h) w
