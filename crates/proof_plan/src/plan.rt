@@ -95,7 +95,8 @@ impl Plan {
     /// The entry of this number, from 0 on.
     pub fn entry(&self, i: u32) -> PlanEntry
         requires { i < length self.now.entries }
-        ensures { slice_get self.now.entries i ≡ Some result }
+        ensures entry { slice_get self.now.entries i ≡ Some result }
+        ensures small { EntryIsSmall result }
     {
         self.entries[i as usize]
     }
@@ -137,7 +138,8 @@ impl Plan {
 
     /// How many variables the packed table has.
     pub fn packed_vars(&self) -> u32
-        ensures { result ≡ self.now.packed_log }
+        ensures value { result ≡ self.now.packed_log }
+        ensures low { result ≤ max_size_log }
     {
         self.packed_vars
     }
