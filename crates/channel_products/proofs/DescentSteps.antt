@@ -64,7 +64,7 @@ bind_leaves g t r low high claims m v e h = draw_due leaves_sum t.at r (subst (�
 pub leaves_open : (g : Stage) (t : Layered) (later : List Rounds) (claims : List ColumnClaim) → g ≡ Leaves → StageFits g t later claims → claims ≡ []
 leaves_open g t later claims e h = subst (λ (x : Stage). StageFits x t later claims) e h
 
-pub told_few : (claims new : List ColumnClaim) (table : ℕ) (z cs v : List ℕ) → claims ≡ [] → new ≡ claims ++ column_claims table z cs v → length cs < 2 ^ 32 → length new < 2 ^ 32
+pub told_few : (claims new : List ColumnClaim) (table : ℕ) (z cs v : List ℕ) → claims ≡ [] → new ≡ claims ++ column_claims table z cs v → length cs < 2 ^ 30 → length new < 2 ^ 30
 told_few claims new table z cs v none h l =
     let s = claims_short table z cs v in
     let m = ap length (h ∙ ap (λ (w : List ColumnClaim). w ++ column_claims table z cs v) none) in

@@ -1,6 +1,6 @@
 //! The walk of the channels of a shape.
 
-ghost use Rattle.std.specs.Prelude.{◌≡◌, ℕ, ◌≤◌, List, length, slice_index, IfOk};
+ghost use Rattle.std.specs.Prelude.{◌≡◌, ℕ, ◌≤◌, ◌^◌, List, length, slice_index, IfOk};
 ghost use Rattle.table_shape.specs.Limits.{max_rows};
 ghost use Rattle.channel_products.specs.Balancing.{balancing, state_balance, told, waiting, BalanceIsDone, IsWaiting};
 ghost use Rattle.channel_products.specs.Channels.{channels_of};
@@ -9,6 +9,7 @@ ghost use Rattle.channel_products.specs.declared.channels.Channels.{Channels as 
 use crate::channels::Channels;
 use crate::no_memory::NoMemory;
 use crate::products::first_unequal;
+use crate::told_products::ToldProducts;
 use poly_forms::{CheckKind, DrawKind};
 use std::alloc::Global;
 use std::marker::Model;
@@ -45,7 +46,7 @@ impl Model for BalanceWalk {
 
     ghost view = { λ w. balancing_of w.stage w.channels w.alpha w.gamma w.values.items };
 
-    ghost invariant = { λ w. record { stage : StageFits w.stage w.channels w.alpha w.gamma w.values.items (vec_capacity w.values); few : length w.channels.flushes < 2 ^ 32; channels : length w.channels.widths < 2 ^ 32 } };
+    ghost invariant = { λ w. record { stage : StageFits w.stage w.channels w.alpha w.gamma w.values.items (vec_capacity w.values); few : length w.channels.flushes < 2 ^ 30; channels : length w.channels.widths < 2 ^ 32 } };
 }
 
 impl BalanceWalk {
@@ -91,6 +92,46 @@ impl BalanceWalk {
         ensures { (ch : Parts) (a g : ℕ) (v : List ℕ) → self.now ≡ told ch a g v → (result.0 ≡ a) × (result.1 ≡ g) × (result.2.now ≡ v) }
     {
         (self.alpha, self.gamma, self.values.as_slice())
+    }
+
+    /// How many claims are pending. They are few, so that those of many walks can be counted together.
+    pub fn count_pending(&self) -> u32
+        ensures count { result ≡ length (balancing.pending self.now) }
+        ensures few { result ≤ 2 ^ 30 }
+    {
+        match self.stage {
+            Stage::Waiting => 0,
+            Stage::Stated | Stage::Collapsing | Stage::Multiplying => 1,
+            Stage::Told => self.values.len() as u32,
+        }
+    }
+
+    /// The same with the flushes, in their memory.
+    pub fn leave(self) -> ToldProducts
+        requires { BalanceIsDone self }
+        ensures told { (ch : Parts) (a g : ℕ) (v : List ℕ) → self ≡ told ch a g v → (result.flushes ≡ ch.flushes) × (result.alpha ≡ a) × (result.gamma ≡ g) × (result.values.items ≡ v) }
+        ensures few { length result.values.items ≤ length result.flushes }
+    {
+        let BalanceWalk {
+            stage: _,
+            channels,
+            alpha,
+            gamma,
+            values,
+        } = self;
+        let Channels {
+            widths: _,
+            flushes,
+            boundaries: _,
+            alphas: _,
+            gammas: _,
+        } = channels;
+        ToldProducts {
+            flushes,
+            alpha,
+            gamma,
+            values,
+        }
     }
 }
 
@@ -147,11 +188,7 @@ impl Steps for BalanceWalk {
     }
 
     fn pending_count(&self) -> u32 {
-        match self.stage {
-            Stage::Waiting => 0,
-            Stage::Stated | Stage::Collapsing | Stage::Multiplying => 1,
-            Stage::Told => self.values.len() as u32,
-        }
+        self.count_pending()
     }
 
     fn pending(&self, i: u32) -> Pending<'_> {

@@ -23,6 +23,7 @@ mod product_walk;
 mod products;
 mod sides;
 mod sum_tables;
+mod told_products;
 
 pub use balance_prover::BalanceProver;
 pub use balance_walk::BalanceWalk;
@@ -35,3 +36,4 @@ pub use laws::{balances_keep_truth, products_keep_truth};
 pub use no_memory::NoMemory;
 pub use product_prover::ProductProver;
 pub use product_walk::ProductWalk;
+pub use told_products::ToldProducts;

@@ -1,6 +1,6 @@
 //! The walk of a flush's product.
 
-ghost use Rattle.std.specs.Prelude.{◌≡◌, ℕ, ◌+◌, ◌<◌, ◌≤◌, ◌++◌, ◌∷◌, [], List, length, slice_get, IfOk, IsSome, OnOk, Some};
+ghost use Rattle.std.specs.Prelude.{◌≡◌, ℕ, ◌+◌, ◌<◌, ◌≤◌, ◌^◌, ◌++◌, ◌∷◌, [], List, length, slice_get, IfOk, IsSome, OnOk, Some};
 ghost use Rattle.sumcheck.specs.Claim.{Claim};
 ghost use Rattle.sumcheck.specs.Rounds.{bound, sum_claim, with_claim, Rounds};
 ghost use Rattle.sumcheck.specs.Summing.{closed};
@@ -62,7 +62,7 @@ impl Model for ProductWalk {
 
     ghost view = { λ w. descent_of w.stage w.layered w.rounds w.low w.high w.claims.items };
 
-    ghost invariant = { λ w. record { stage : StageFits w.stage w.layered w.later.items w.claims.items; columns : w.columns.items ≡ leaf_columns w.layered.at.flushed; vars : w.points.vars ≡ 32; few : length w.columns.items < 2 ^ 32; many : IsOpen w.stage → length w.columns.items ≤ w.points.count; space : IsOpen w.stage → length w.columns.items ≤ vec_capacity w.claims; told : length w.claims.items < 2 ^ 32 } };
+    ghost invariant = { λ w. record { stage : StageFits w.stage w.layered w.later.items w.claims.items; columns : w.columns.items ≡ leaf_columns w.layered.at.flushed; vars : w.points.vars ≡ 32; few : length w.columns.items < 2 ^ 30; many : IsOpen w.stage → length w.columns.items ≤ w.points.count; space : IsOpen w.stage → length w.columns.items ≤ vec_capacity w.claims; told : length w.claims.items < 2 ^ 30 } };
 }
 
 /// The flush of that number.
@@ -254,6 +254,18 @@ impl ProductWalk {
         &self.claims[i as usize]
     }
 
+    /// How many claims are pending. They are few, so that those of many walks can be counted together.
+    pub fn count_pending(&self) -> u32
+        ensures count { result ≡ length (descent.pending self.now) }
+        ensures few { result ≤ 2 ^ 30 }
+    {
+        match self.stage {
+            Stage::Waiting => 0,
+            Stage::Layers | Stage::Joining | Stage::Leaves => 1,
+            Stage::Done => self.claims.len() as u32,
+        }
+    }
+
     /// The claims that are left at the end, in their memory.
     pub fn leave(self) -> Vec<ColumnClaim>
         requires { DescentIsDone self }
@@ -346,11 +358,7 @@ impl Steps for ProductWalk {
     }
 
     fn pending_count(&self) -> u32 {
-        match self.stage {
-            Stage::Waiting => 0,
-            Stage::Layers | Stage::Joining | Stage::Leaves => 1,
-            Stage::Done => self.claims.len() as u32,
-        }
+        self.count_pending()
     }
 
     fn pending(&self, i: u32) -> Pending<'_> {

@@ -144,7 +144,7 @@ merge = record {
 -- ---- what is stated
 -- a walk of n variables takes these claims: two or more on that column, at points of n coordinates
 abbrev pub Takes : ℕ → ℕ → List ColumnClaim → Merge → Type 0
-Takes t k cs (waiting n m) = ((2 ≤ length cs) × (length cs < 2 ^ 32)) × AllOn t k n cs
+Takes t k cs (waiting n m) = ((2 ≤ length cs) × (length cs < 2 ^ 30)) × AllOn t k n cs
 Takes t k cs (opening t' k' n ds) = ⊥
 Takes t k cs (summed s) = ⊥
 
@@ -176,5 +176,5 @@ merge_of g t r (Some claim) m = summed (closed claim)
 -- what is known in each stage
 abbrev pub StageFits : Stage → Joined → Rounds → Option ColumnClaim → Space → Type 0
 StageFits Waiting t r o m = (o ≡ None) × ((with_claim 0 r ≡ sum_claim 2 t.vars [] 0) × (m.vars ≡ t.vars))
-StageFits Opening t r o m = (o ≡ None) × ((with_claim 0 r ≡ sum_claim 2 t.vars [] 0) × ((1 ≤ length t.claims) × (length t.claims < 2 ^ 32)))
+StageFits Opening t r o m = (o ≡ None) × ((with_claim 0 r ≡ sum_claim 2 t.vars [] 0) × ((1 ≤ length t.claims) × (length t.claims < 2 ^ 30)))
 StageFits Adding t r o m = Unit {0}

@@ -1,6 +1,6 @@
 //! The step of a linear column.
 
-ghost use Rattle.std.specs.Prelude.{◌≡◌, ◌<◌, ◌≤◌, List, length, slice_get, IfErr, IfOk, IsSome, MatchResult, None, Some};
+ghost use Rattle.std.specs.Prelude.{◌≡◌, ◌<◌, ◌≤◌, ◌^◌, List, length, slice_get, IfErr, IfOk, IsSome, MatchResult, None, Some};
 ghost use Rattle.sumcheck.specs.Claim.{claim_of};
 ghost use Rattle.sumcheck.specs.Machine.{first_entry, AwaitsMessage};
 ghost use Rattle.sumcheck.specs.declared.column_claim.ColumnClaim.{ColumnClaim as Claim};
@@ -35,7 +35,7 @@ impl Model for LinearStep {
 
     ghost view = { λ s. linear_of s.told s.combination s.claim s.claims.items };
 
-    ghost invariant = { λ s. record { few : length s.combination.terms < 2 ^ 32; own_vars : s.own.vars ≡ s.combination.vars; vars : s.points.vars ≡ s.combination.vars; own : s.claim ≡ None → 1 ≤ s.own.count; many : s.told ≡ false → length s.combination.terms ≤ s.points.count; space : s.told ≡ false → length s.combination.terms ≤ vec_capacity s.claims; none : s.told ≡ false → s.claims.items ≡ []; told : length s.claims.items < 2 ^ 32; short : ClaimIsShort s.combination.vars s.claim } };
+    ghost invariant = { λ s. record { few : length s.combination.terms < 2 ^ 30; own_vars : s.own.vars ≡ s.combination.vars; vars : s.points.vars ≡ s.combination.vars; own : s.claim ≡ None → 1 ≤ s.own.count; many : s.told ≡ false → length s.combination.terms ≤ s.points.count; space : s.told ≡ false → length s.combination.terms ≤ vec_capacity s.claims; none : s.told ≡ false → s.claims.items ≡ []; told : length s.claims.items < 2 ^ 30; short : ClaimIsShort s.combination.vars s.claim } };
 }
 
 impl LinearStep {
@@ -160,7 +160,8 @@ impl LinearStep {
 
     /// How many claims are pending.
     pub fn pending_count(&self) -> u32
-        ensures { result ≡ length (linear_step.pending self.now) }
+        ensures count { result ≡ length (linear_step.pending self.now) }
+        ensures few { result ≤ 2 ^ 30 }
     {
         if self.told {
             return self.claims.len() as u32;

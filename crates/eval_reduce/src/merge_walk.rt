@@ -1,6 +1,6 @@
 //! The walk of a merge.
 
-ghost use Rattle.std.specs.Prelude.{◌≡◌, ℕ, ◌<◌, ◌≤◌, length, IfOk};
+ghost use Rattle.std.specs.Prelude.{◌≡◌, ℕ, ◌<◌, ◌≤◌, ◌^◌, length, IfOk};
 ghost use Rattle.sumcheck.specs.Summing.{closed};
 ghost use Rattle.eval_reduce.specs.Merge.{merge, waiting, summed, room_of, state_claims, IsDone, Takes};
 
@@ -107,6 +107,18 @@ impl MergeWalk {
         }
     }
 
+    /// How many claims are pending. They are few, so that those of many walks can be counted together.
+    pub fn count_pending(&self) -> u32
+        ensures count { result ≡ length (merge.pending self.now) }
+        ensures few { result ≤ 2 ^ 30 }
+    {
+        match self.stage {
+            Stage::Waiting => 0,
+            Stage::Opening => self.joined.claims.len() as u32,
+            Stage::Adding => 1,
+        }
+    }
+
     /// The claim that is left at the end, in its memory.
     pub fn leave(self) -> ColumnClaim
         requires { IsDone self }
@@ -179,11 +191,7 @@ impl Steps for MergeWalk {
     }
 
     fn pending_count(&self) -> u32 {
-        match self.stage {
-            Stage::Waiting => 0,
-            Stage::Opening => self.joined.claims.len() as u32,
-            Stage::Adding => 1,
-        }
+        self.count_pending()
     }
 
     fn pending(&self, i: u32) -> Pending<'_> {

@@ -138,7 +138,7 @@ pub record Kept (columns : List ℕ) (forms : List Tree) (d v n : ℕ) : Type 0 
   pub low : d ≤ 8
   pub few : n ≤ 32
   pub within : v ≤ n
-  pub short : length columns < 2 ^ 32
+  pub short : length columns < 2 ^ 30
   pub below : AllByRecursion (λ (f : Tree). VariablesBelow (length columns) (form_of f)) forms
 
 pub kept_is : (shape : ShapeParts) (t v rows : ℕ) (table : TableShape) → IsReady shape t v rows table → rows ≤ 1048576 → (columns : List ℕ) (forms : List Tree) (d l : ℕ) → columns ≡ columns_in v table

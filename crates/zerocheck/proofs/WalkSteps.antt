@@ -83,7 +83,7 @@ last_count t (sum_claim d zero z c) v claims h e = h
 last_count t (sum_claim d (suc n) z c) v claims h e = absurd (cc)
 last_count t (round_claim d n z w) v claims h e = absurd (cc)
 
-pub told_few : (g : Stage) (t : Zeroed) (n : ℕ) (r : Rounds) (claims new : List ColumnClaim) (table : ℕ) (z cs v : List ℕ) → StageFits g t n r claims → g ≡ Adding → new ≡ claims ++ column_claims table z cs v → length cs < 2 ^ 32 → length new < 2 ^ 32
+pub told_few : (g : Stage) (t : Zeroed) (n : ℕ) (r : Rounds) (claims new : List ColumnClaim) (table : ℕ) (z cs v : List ℕ) → StageFits g t n r claims → g ≡ Adding → new ≡ claims ++ column_claims table z cs v → length cs < 2 ^ 30 → length new < 2 ^ 30
 told_few g t n r claims new table z cs v f e h l =
     let none : claims ≡ [] = subst (λ (x : Stage). StageFits x t n r claims) e f in
     let s = claims_short table z cs v in

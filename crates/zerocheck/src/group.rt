@@ -52,7 +52,7 @@ impl Model for Group {
 
     ghost view = { λ g. record { table = g.table; log_values = g.log_values; rows = g.rows; vars = g.vars; degree = g.degree; columns = g.columns.items; constraints = g.constraints.items } };
 
-    ghost invariant = { λ g. record { some : 1 ≤ length g.constraints.items; low : g.degree ≤ 8; few : g.vars ≤ 32; within : g.log_values ≤ g.vars; short : length g.columns.items < 2 ^ 32; below : AllByRecursion (λ (f : Tree). VariablesBelow (length g.columns.items) (form_of f)) g.constraints.items } };
+    ghost invariant = { λ g. record { some : 1 ≤ length g.constraints.items; low : g.degree ≤ 8; few : g.vars ≤ 32; within : g.log_values ≤ g.vars; short : length g.columns.items < 2 ^ 30; below : AllByRecursion (λ (f : Tree). VariablesBelow (length g.columns.items) (form_of f)) g.constraints.items } };
 }
 
 /// Whether some constraint of the group names a column.
@@ -218,7 +218,7 @@ impl Group {
         requires space { length claims.old.items + length self.now.columns ≤ vec_capacity claims.old }
         ensures claims { claims.new.items ≡ claims.old.items ++ column_claims self.now.table point.now self.now.columns values.now }
         ensures vars { points.new.vars ≡ points.old.vars }
-        ensures few { length self.now.columns < 2 ^ 32 }
+        ensures few { length self.now.columns < 2 ^ 30 }
     {
         push_claims(
             self.table,

@@ -1,6 +1,6 @@
 //! The walk of a group.
 
-ghost use Rattle.std.specs.Prelude.{◌≡◌, ◌<◌, ◌≤◌, ◌-◌, length, slice_get, IfOk, IsSome, List, Some};
+ghost use Rattle.std.specs.Prelude.{◌≡◌, ◌<◌, ◌≤◌, ◌-◌, ◌^◌, length, slice_get, IfOk, IsSome, List, Some};
 ghost use Rattle.sumcheck.specs.Summing.{closed};
 ghost use Rattle.sumcheck.specs.declared.column_claim.ColumnClaim.{ColumnClaim as Claim};
 ghost use Rattle.table_shape.specs.Limits.{max_rows};
@@ -56,7 +56,7 @@ impl Model for ZeroWalk {
 
     ghost view = { λ w. zero_of w.stage w.zeroed w.left w.rounds w.claims.items };
 
-    ghost invariant = { λ w. record { stage : StageFits w.stage w.zeroed w.left w.rounds w.claims.items; vars : w.points.vars ≡ 32; many : IsOpen w.stage → length w.zeroed.group.columns ≤ w.points.count; space : IsOpen w.stage → length w.zeroed.group.columns ≤ vec_capacity w.claims; told : length w.claims.items < 2 ^ 32 } };
+    ghost invariant = { λ w. record { stage : StageFits w.stage w.zeroed w.left w.rounds w.claims.items; vars : w.points.vars ≡ 32; many : IsOpen w.stage → length w.zeroed.group.columns ≤ w.points.count; space : IsOpen w.stage → length w.zeroed.group.columns ≤ vec_capacity w.claims; told : length w.claims.items < 2 ^ 30 } };
 }
 
 impl ZeroWalk {
@@ -116,6 +116,18 @@ impl ZeroWalk {
         ensures { (claims : List Claim) → self.now ≡ summed (closed claims) → slice_get claims i ≡ Some result.now }
     {
         &self.claims[i as usize]
+    }
+
+    /// How many claims are pending. They are few, so that those of many walks can be counted together.
+    pub fn count_pending(&self) -> u32
+        ensures count { result ≡ length (zerocheck.pending self.now) }
+        ensures few { result ≤ 2 ^ 30 }
+    {
+        match self.stage {
+            Stage::Waiting => 0,
+            Stage::Stated | Stage::Drawing | Stage::Adding => 1,
+            Stage::Done => self.claims.len() as u32,
+        }
     }
 
     /// The claims that are left at the end, in their memory.
@@ -201,11 +213,7 @@ impl Steps for ZeroWalk {
     }
 
     fn pending_count(&self) -> u32 {
-        match self.stage {
-            Stage::Waiting => 0,
-            Stage::Stated | Stage::Drawing | Stage::Adding => 1,
-            Stage::Done => self.claims.len() as u32,
-        }
+        self.count_pending()
     }
 
     fn pending(&self, i: u32) -> Pending<'_> {

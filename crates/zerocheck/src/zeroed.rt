@@ -88,7 +88,7 @@ impl Zeroed {
         requires space { length claims.old.items + length self.now.group.columns ≤ vec_capacity claims.old }
         ensures claims { claims.new.items ≡ claims.old.items ++ column_claims self.now.group.table point.now self.now.group.columns values.now }
         ensures vars { points.new.vars ≡ points.old.vars }
-        ensures few { length self.now.group.columns < 2 ^ 32 }
+        ensures few { length self.now.group.columns < 2 ^ 30 }
     {
         self.group.tell(point, values, points, claims);
     }

@@ -1,7 +1,7 @@
 use Rattle.std.proofs.Common.{arith}
 use Rattle.std.proofs.lemmas.Grind.{common_steps}
 use Rattle.channel_products.proofs.WalkSteps.{told_count}
-use Rattle.channel_products.proofs.balance_walk.BalanceWalkSteps.pending_count.Goals as goal
+use Rattle.channel_products.proofs.balance_walk.BalanceWalk.count_pending.Goals as goal
 
 pub returns-in-Told : goal.returns-in-Told
 returns-in-Told c =
