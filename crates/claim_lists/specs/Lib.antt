@@ -1,0 +1,2 @@
+pub mod OnColumn
+pub mod ByColumn
