@@ -90,6 +90,18 @@ product_claims a g [] v = []
 product_claims a g (f ∷ fs) [] = []
 product_claims a g (f ∷ fs) (x ∷ v) = claim.flush_product f.table f.number a g x ∷ product_claims a g fs v
 
+-- what is claimed by a walk whose claim isn't stated yet, where there is a channel of these widths
+abbrev pub balance_of : List ℕ → Option Claim
+balance_of [] = None
+balance_of (w ∷ ws) = Some claim.balance
+
+abbrev pub unstated : Balancing → Option Claim
+unstated (waiting ch) = balance_of ch.widths
+unstated (stated ch) = None
+unstated (collapsing ch a) = None
+unstated (multiplying ch a g) = None
+unstated (told ch a g v) = None
+
 abbrev pub balancing_pending : Balancing → List Claim
 balancing_pending (waiting ch) = []
 balancing_pending (stated ch) = claim.balance ∷ []

@@ -1,8 +1,9 @@
 //! The walk of the channels of a shape.
 
-ghost use Rattle.std.specs.Prelude.{◌≡◌, ℕ, ◌≤◌, ◌^◌, List, length, slice_index, IfOk};
+ghost use Rattle.std.specs.Prelude.{◌≡◌, ℕ, ◌≤◌, ◌^◌, List, length, option_map, slice_index, IfOk};
+ghost use Rattle.sumcheck.specs.Claim.{claim_of};
 ghost use Rattle.table_shape.specs.Limits.{max_rows};
-ghost use Rattle.channel_products.specs.Balancing.{balancing, state_balance, told, waiting, BalanceIsDone, IsWaiting};
+ghost use Rattle.channel_products.specs.Balancing.{balancing, state_balance, told, unstated, waiting, BalanceIsDone, IsWaiting};
 ghost use Rattle.channel_products.specs.Channels.{channels_of};
 ghost use Rattle.channel_products.specs.declared.channels.Channels.{Channels as Parts};
 
@@ -92,6 +93,16 @@ impl BalanceWalk {
         ensures { (ch : Parts) (a g : ℕ) (v : List ℕ) → self.now ≡ told ch a g v → (result.0 ≡ a) × (result.1 ≡ g) × (result.2.now ≡ v) }
     {
         (self.alpha, self.gamma, self.values.as_slice())
+    }
+
+    /// What is claimed while the claim isn't stated yet, where there is a channel.
+    pub fn unstated(&self) -> Option<Pending<'_>>
+        ensures { option_map claim_of result ≡ unstated self.now }
+    {
+        match self.stage {
+            Stage::Waiting if !self.channels.widths.is_empty() => Some(Pending::Balance),
+            _ => None,
+        }
     }
 
     /// How many claims are pending. They are few, so that those of many walks can be counted together.

@@ -1,6 +1,6 @@
 -- The constraints of a group are 0 on the rows of their table: as a claim, and its reduction to claims on columns.
 -- Source: docs/REDUCTIONS.md, "Zerocheck".
-use Rattle.std.specs.Prelude.{◌≡◌, ◌≤◌, ◌<◌, ℕ, zero, suc, ◌+◌, ◌*◌, ◌-◌, ◌^◌, ltb, List, [], ◌∷◌, ◌++◌, length, map, drop, Option, None}
+use Rattle.std.specs.Prelude.{◌≡◌, ◌≤◌, ◌<◌, ℕ, zero, suc, ◌+◌, ◌*◌, ◌-◌, ◌^◌, ltb, List, [], ◌∷◌, ◌++◌, length, map, drop, Option, None, Some}
 use Rattle.std.specs.List.{AllByRecursion}
 use Rattle.counting_laws.specs.Counting.{AtMost}
 use Rattle.tower_laws.specs.Tower.{mul}
@@ -139,6 +139,13 @@ zero_draw (waiting g) r = waiting g
 zero_draw (stated g) r = zeroing g r [] g.vars
 zero_draw (vector g beta prefix n) r = zeroing g beta (prefix ++ r ∷ []) n
 zero_draw (summed s) r = summed (summed_draw s r)
+
+-- what is claimed by a walk whose claim isn't stated yet
+abbrev pub unstated : Zero → Option Claim
+unstated (waiting g) = Some (group g.table g.log_values)
+unstated (stated g) = None
+unstated (vector g beta prefix n) = None
+unstated (summed s) = None
 
 abbrev pub zero_pending : Zero → List Claim
 zero_pending (waiting g) = []

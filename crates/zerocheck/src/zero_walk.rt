@@ -1,11 +1,12 @@
 //! The walk of a group.
 
-ghost use Rattle.std.specs.Prelude.{◌≡◌, ◌<◌, ◌≤◌, ◌-◌, ◌^◌, length, slice_get, IfOk, IsSome, List, Some};
+ghost use Rattle.std.specs.Prelude.{◌≡◌, ◌<◌, ◌≤◌, ◌-◌, ◌^◌, length, slice_get, IfOk, IsSome, List, Some, option_map};
+ghost use Rattle.sumcheck.specs.Claim.{claim_of};
 ghost use Rattle.sumcheck.specs.Summing.{closed};
 ghost use Rattle.sumcheck.specs.declared.column_claim.ColumnClaim.{ColumnClaim as Claim};
 ghost use Rattle.table_shape.specs.Limits.{max_rows};
 ghost use Rattle.zerocheck.specs.Group.{Group as Constraints, group_of};
-ghost use Rattle.zerocheck.specs.Zero.{zerocheck, waiting, summed, stage_at, state_zero, IsWaiting, ZeroIsDone};
+ghost use Rattle.zerocheck.specs.Zero.{zerocheck, unstated, waiting, summed, stage_at, state_zero, IsWaiting, ZeroIsDone};
 
 use crate::group::Group;
 use crate::no_memory::NoMemory;
@@ -116,6 +117,19 @@ impl ZeroWalk {
         ensures { (claims : List Claim) → self.now ≡ summed (closed claims) → slice_get claims i ≡ Some result.now }
     {
         &self.claims[i as usize]
+    }
+
+    /// What is claimed while the claim isn't stated yet.
+    pub fn unstated(&self) -> Option<Pending<'_>>
+        ensures { option_map claim_of result ≡ unstated self.now }
+    {
+        match self.stage {
+            Stage::Waiting => Some(Pending::Group {
+                table: self.zeroed.group.table,
+                log_values: self.zeroed.group.log_values,
+            }),
+            _ => None,
+        }
     }
 
     /// How many claims are pending. They are few, so that those of many walks can be counted together.
