@@ -87,6 +87,13 @@ impl LinearStep {
         self.claim = Some(claim);
     }
 
+    /// The table of the column that the step is of, and the column's number in it.
+    pub fn column(&self) -> (u32, u32)
+        ensures { (f : Form) → self.now ≡ waiting f → (result.0 ≡ f.table) × (result.1 ≡ f.column) }
+    {
+        (self.combination.table, self.combination.column)
+    }
+
     /// How many claims are left at the end.
     pub fn claim_count(&self) -> u32
         requires { LinearIsDone self.now }

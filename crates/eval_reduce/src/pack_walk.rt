@@ -109,6 +109,13 @@ impl PackWalk {
         self.claim = Some(claim);
     }
 
+    /// The table of the column that the walk is of, and the column's number in it.
+    pub fn column(&self) -> (u32, u32)
+        ensures { (f : Form) → self.now ≡ waiting f → (result.0 ≡ f.table) × (result.1 ≡ f.column) }
+    {
+        (self.packing.table, self.packing.column)
+    }
+
     /// How many claims are left at the end.
     pub fn claim_count(&self) -> u32
         requires { PackIsDone self.now }

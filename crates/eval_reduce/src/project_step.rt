@@ -103,6 +103,13 @@ impl ProjectStep {
         self.enter(&claim);
     }
 
+    /// The table of the column that the step is of, and the column's number in it.
+    pub fn column(&self) -> (u32, u32)
+        ensures { (p : Form) → self.now ≡ waiting p → (result.0 ≡ p.table) × (result.1 ≡ p.column) }
+    {
+        (self.projection.table, self.projection.column)
+    }
+
     /// How many claims are left at the end.
     pub fn claim_count(&self) -> u32
         requires { ProjectIsDone self.now }

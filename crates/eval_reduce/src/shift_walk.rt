@@ -105,6 +105,13 @@ impl ShiftWalk {
         self.shifted = Some(Shifted::new(self.shifting, point));
     }
 
+    /// The table of the column that the walk is of, and the column's number in it.
+    pub fn column(&self) -> (u32, u32)
+        ensures { (s : Form) → self.now ≡ waiting s → (result.0 ≡ s.table) × (result.1 ≡ s.column) }
+    {
+        (self.shifting.table, self.shifting.column)
+    }
+
     /// How many claims are left at the end.
     pub fn claim_count(&self) -> u32
         requires { ShiftIsDone self.now }
