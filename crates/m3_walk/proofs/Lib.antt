@@ -1,1 +1,4 @@
+pub mod Keys
+pub mod Leaving
+pub mod Parts
 pub mod Stages
