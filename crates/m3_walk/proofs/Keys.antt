@@ -1,14 +1,10 @@
 -- What a reduction will leave is known from its start: a message or a draw doesn't change its sizes.
-use Rattle.std.proofs.Common.{◌≡◌, ◌∙◌, ◌+◌, ◌-◌, ℕ, zero, suc, List, [], ◌∷◌, ◌++◌, length, map, drop, refl, sym, ap, subst, arith}
+use Rattle.std.proofs.Common.{◌≡◌, ◌∙◌, ◌+◌, ◌-◌, ℕ, zero, suc, List, [], ◌∷◌, ◌++◌, length, map, drop, refl, sym, ap, arith}
 use Rattle.std.proofs.lemmas.List.{length-append, length-drop, map-append}
-use Rattle.std.specs.List.{AllByRecursion}
 use Rattle.cube_laws.specs.Extension.{fold_low}
-use Rattle.poly_forms.specs.declared.draw_kind.DrawKind.{DrawKind}
 use Rattle.sumcheck.specs.declared.column_claim.ColumnClaim.{ColumnClaim}
-use Rattle.sumcheck.specs.declared.entry.Entry.{Entry}
-use Rattle.sumcheck.specs.declared.entry.Entry.TheVariants.{Draw}
-use Rattle.sumcheck.specs.Column.{ColumnFits, column_claims}
-use Rattle.sumcheck.specs.Machine.{AwaitsMessage, Filling}
+use Rattle.sumcheck.specs.Column.{column_claims}
+use Rattle.sumcheck.specs.Machine.{AwaitsMessage}
 use Rattle.sumcheck.specs.Rounds.{Rounds, round_claim, rounds_draw, sum_claim, variables}
 use Rattle.sumcheck.specs.Summing.{adding, closed}
 use Rattle.table_shape.specs.declared.shape.ShapeTerm.{ShapeTerm}
@@ -38,7 +34,7 @@ use Rattle.m3_walk.specs.declared.stage.Stage.{Stage}
 use Rattle.m3_walk.specs.declared.stage.Stage.TheVariants.{Start, Channels, Flush, Constraints, Merge as Merges, Linear as Combines, Project as Projects, Claimed, Pack as Packs, Shift as Shifts, Bits, Words, Switch}
 use Rattle.m3_walk.specs.Kept.{Kept, Packed, Product}
 use Rattle.m3_walk.specs.Linking.{Place, Sizes, balance_flushes, bits_left, bits_sizes, descent_left, descent_places, flush_places, left, linear_left, merge_left, pack_left, packed_left, products_left, shift_left, zero_left, linear_places, merge_places, pack_places, packed_sizes, place_of, places_on, products_with, shift_places, sizes, sizes_left, term_places, zero_places}
-use Rattle.m3_walk.specs.Stages.{StageFits, staged}
+use Rattle.m3_walk.specs.Stages.{staged}
 use Rattle.m3_walk.proofs.Leaving.{still_due}
 
 -- ---- sizes of rounds
@@ -185,7 +181,7 @@ balance_drawn (balance.collapsing ch a) r = refl
 balance_drawn (balance.multiplying ch a g) r = refl
 balance_drawn (balance.told ch a g v) r = refl
 
-descending_places : (f : Flushed) (a g k d : ℕ) (z : List ℕ) (c : ℕ) → descent_places (descent.descending f a g k d z c) ≡ flush_places f (row_vars f)
+pub descending_places : (f : Flushed) (a g k d : ℕ) (z : List ℕ) (c : ℕ) → descent_places (descent.descending f a g k d z c) ≡ flush_places f (row_vars f)
 descending_places f a g k zero z c = ap (λ n. flush_places f n) (none_set (row_vars f))
 descending_places f a g k (suc d) z c = refl
 

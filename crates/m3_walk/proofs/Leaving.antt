@@ -1,10 +1,10 @@
 -- A reduction that is done leaves claims that are true exactly where its own are.
-use Rattle.std.proofs.Common.{◌≡◌, ◌∙◌, ◌↔◌, ◌+◌, ◌^◌, ℕ, zero, suc, List, [], ◌∷◌, ◌++◌, length, map, refl, sym, ap, subst}
+use Rattle.std.proofs.Common.{◌≡◌, ◌↔◌, ℕ, zero, suc, List, [], ◌∷◌, ◌++◌, length, map, refl, sym}
 use Rattle.std.specs.List.{AllByRecursion}
 use Rattle.sumcheck.specs.declared.column_claim.ColumnClaim.{ColumnClaim}
-use Rattle.sumcheck.specs.Column.{ColumnFits, ColumnHolds}
+use Rattle.sumcheck.specs.Column.{ColumnHolds}
 use Rattle.sumcheck.specs.Machine.{Filling}
-use Rattle.sumcheck.specs.Rounds.{Rounds, round_claim, sum_claim}
+use Rattle.sumcheck.specs.Rounds.{round_claim, sum_claim}
 use Rattle.sumcheck.specs.Summing.{adding, closed}
 use Rattle.table_shape.specs.Placement.{Block}
 use Rattle.channel_products.specs.declared.flushed.Flushed.{Flushed}
@@ -30,7 +30,7 @@ use Rattle.ring_switch.specs.Switching.{Switching, switching}
 use Rattle.m3_walk.specs.declared.stage.Stage.{Stage}
 use Rattle.m3_walk.specs.declared.stage.Stage.TheVariants.{Start, Channels, Flush, Constraints, Merge as Merges, Linear as Combines, Project as Projects, Claimed, Pack as Packs, Shift as Shifts, Bits, Words, Switch}
 use Rattle.m3_walk.specs.Kept.{BitHolds, Kept, KeptFits, KeptHolds, Packed, PackedHolds, Product, ProductHolds}
-use Rattle.m3_walk.specs.Linking.{bits_left, claim_of, claims_of, descent_left, left, linear_left, merge_left, pack_left, packed_left, products_left, products_with, shift_left, zero_left}
+use Rattle.m3_walk.specs.Linking.{bits_left, descent_left, left, linear_left, merge_left, pack_left, packed_left, products_left, products_with, shift_left, zero_left}
 use Rattle.m3_walk.specs.Stages.{StageFits, StageHolds, packed_filling, staged}
 use Rattle.m3_walk.proofs.Parts.{all_joined, first_part, second_part}
 
@@ -42,26 +42,30 @@ still_due x xs e = cc
 columns : (F : Filling) (w : Kept) (cs : List ColumnClaim) (P : Type 0) → (P → AllByRecursion (ColumnHolds F) cs) → (AllByRecursion (ColumnHolds F) cs → P)
     → (P × KeptHolds F w) ↔ KeptHolds F (record w { columns = w.columns ++ cs })
 columns F w cs P to from = (
-    (λ h. record { products = h.1.products; columns = all_joined (ColumnHolds F) w.columns cs h.1.columns (to h.0); bits = h.1.bits; packed = h.1.packed }),
-    (λ k. (from (second_part (ColumnHolds F) w.columns cs k.columns), record { products = k.products; columns = first_part (ColumnHolds F) w.columns cs k.columns; bits = k.bits; packed = k.packed })))
+  (λ h. record { products = h.1.products; columns = all_joined (ColumnHolds F) w.columns cs h.1.columns (to h.0); bits = h.1.bits; packed = h.1.packed }),
+  (λ k. (from (second_part (ColumnHolds F) w.columns cs k.columns), record { products = k.products; columns = first_part (ColumnHolds F) w.columns cs k.columns; bits = k.bits; packed = k.packed })),
+)
 
 products : (F : Filling) (w : Kept) (ps : List Product) (P : Type 0) → (P → AllByRecursion (ProductHolds F) ps) → (AllByRecursion (ProductHolds F) ps → P)
     → (P × KeptHolds F w) ↔ KeptHolds F (record w { products = w.products ++ ps })
 products F w ps P to from = (
-    (λ h. record { products = all_joined (ProductHolds F) w.products ps h.1.products (to h.0); columns = h.1.columns; bits = h.1.bits; packed = h.1.packed }),
-    (λ k. (from (second_part (ProductHolds F) w.products ps k.products), record { products = first_part (ProductHolds F) w.products ps k.products; columns = k.columns; bits = k.bits; packed = k.packed })))
+  (λ h. record { products = all_joined (ProductHolds F) w.products ps h.1.products (to h.0); columns = h.1.columns; bits = h.1.bits; packed = h.1.packed }),
+  (λ k. (from (second_part (ProductHolds F) w.products ps k.products), record { products = first_part (ProductHolds F) w.products ps k.products; columns = k.columns; bits = k.bits; packed = k.packed })),
+)
 
 bit_values : (F : Filling) (w : Kept) (bs : List BitValue) (P : Type 0) → (P → AllByRecursion (BitHolds F) bs) → (AllByRecursion (BitHolds F) bs → P)
     → (P × KeptHolds F w) ↔ KeptHolds F (record w { bits = w.bits ++ bs })
 bit_values F w bs P to from = (
-    (λ h. record { products = h.1.products; columns = h.1.columns; bits = all_joined (BitHolds F) w.bits bs h.1.bits (to h.0); packed = h.1.packed }),
-    (λ k. (from (second_part (BitHolds F) w.bits bs k.bits), record { products = k.products; columns = k.columns; bits = first_part (BitHolds F) w.bits bs k.bits; packed = k.packed })))
+  (λ h. record { products = h.1.products; columns = h.1.columns; bits = all_joined (BitHolds F) w.bits bs h.1.bits (to h.0); packed = h.1.packed }),
+  (λ k. (from (second_part (BitHolds F) w.bits bs k.bits), record { products = k.products; columns = k.columns; bits = first_part (BitHolds F) w.bits bs k.bits; packed = k.packed })),
+)
 
 packed_values : (F : Filling) (w : Kept) (ps : List Packed) (P : Type 0) → (P → AllByRecursion (PackedHolds F) ps) → (AllByRecursion (PackedHolds F) ps → P)
     → (P × KeptHolds F w) ↔ KeptHolds F (record w { packed = w.packed ++ ps })
 packed_values F w ps P to from = (
-    (λ h. record { products = h.1.products; columns = h.1.columns; bits = h.1.bits; packed = all_joined (PackedHolds F) w.packed ps h.1.packed (to h.0) }),
-    (λ k. (from (second_part (PackedHolds F) w.packed ps k.packed), record { products = k.products; columns = k.columns; bits = k.bits; packed = first_part (PackedHolds F) w.packed ps k.packed })))
+  (λ h. record { products = h.1.products; columns = h.1.columns; bits = h.1.bits; packed = all_joined (PackedHolds F) w.packed ps h.1.packed (to h.0) }),
+  (λ k. (from (second_part (PackedHolds F) w.packed ps k.packed), record { products = k.products; columns = k.columns; bits = k.bits; packed = first_part (PackedHolds F) w.packed ps k.packed })),
+)
 
 -- ---- products of flushes
 products_told : (F : Filling) (a g : ℕ) (fs : List Flushed) (v : List ℕ) → v ≡ map (product_of F a g) fs → AllByRecursion (ProductHolds F) (products_with a g fs v)
@@ -71,6 +75,7 @@ products_told F a g (f ∷ fs) (x ∷ v) e = (sym (heads e), products_told F a g
   where
     heads : x ∷ v ≡ product_of F a g f ∷ map (product_of F a g) fs → x ≡ product_of F a g f
     heads e = cc
+
     tails : x ∷ v ≡ product_of F a g f ∷ map (product_of F a g) fs → v ≡ map (product_of F a g) fs
     tails e = cc
 

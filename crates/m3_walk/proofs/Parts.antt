@@ -1,5 +1,5 @@
 -- Lists of claims taken apart and put together: what holds of all.
-use Rattle.std.proofs.Common.{◌≡◌, ◌∙◌, ◌↔◌, ℕ, Bool, true, false, cond, List, [], ◌∷◌, ◌++◌, Option, None, Some, refl, sym, ap, subst}
+use Rattle.std.proofs.Common.{◌≡◌, ℕ, Bool, true, false, cond, List, [], ◌∷◌, ◌++◌, None, Some, refl, sym, ap, subst}
 use Rattle.std.specs.List.{AllByRecursion, filter}
 use Rattle.sumcheck.specs.declared.column_claim.ColumnClaim.{ColumnClaim}
 use Rattle.m3_walk.specs.Kept.{by_column, inserted, is_on, stands_before}
@@ -29,8 +29,9 @@ pub all_parts : {X : Type 0} (P : X → Type 0) (p : X → Bool) (xs : List X) �
 all_parts P p [] h k = tt
 all_parts P p (x ∷ xs) h k =
     elim (p x) as (λ t. AllByRecursion P (cond t (x ∷ filter p xs) (filter p xs)) → AllByRecursion P (cond (cond t false true) (x ∷ filter (λ x. cond (p x) false true) xs) (filter (λ x. cond (p x) false true) xs)) → AllByRecursion P (x ∷ xs)) [
-      true ↦ λ a b. (a.0, all_parts P p xs a.1 b)
-    | false ↦ λ a b. (b.0, all_parts P p xs a b.1) ] h k
+      | true ↦ λ a b. (a.0, all_parts P p xs a.1 b)
+      | false ↦ λ a b. (b.0, all_parts P p xs a b.1)
+    ] h k
 
 -- ---- one claim on a column
 -- what holds of the first on a column and of the others holds of all
@@ -46,8 +47,9 @@ the_first P t c [] d e h = absurd (none_is e)
     none_is e = cc
 the_first P t c (x ∷ xs) d e h =
     elim (is_on t c x) as (λ b. cond b (Some x) (first_on t c xs) ≡ Some d → P d) [
-      true ↦ λ s. subst P (some_is x d s) h.0
-    | false ↦ λ s. the_first P t c xs d s h.1 ] e
+      | true ↦ λ s. subst P (some_is x d s) h.0
+      | false ↦ λ s. the_first P t c xs d s h.1
+    ] e
   where
     some_is : (x d : ColumnClaim) → Some x ≡ Some d → x ≡ d
     some_is x d s = cc
@@ -56,8 +58,9 @@ pub with_first : (P : ColumnClaim → Type 0) (t c : ℕ) (cs : List ColumnClaim
 with_first P t c [] d e h k = tt
 with_first P t c (x ∷ xs) d e h k =
     elim (is_on t c x) as (λ b. cond b (Some x) (first_on t c xs) ≡ Some d → AllByRecursion P (cond b xs (x ∷ but_first_on t c xs)) → AllByRecursion P (x ∷ xs)) [
-      true ↦ λ s l. (subst P (sym (some_is x d s)) h, l)
-    | false ↦ λ s l. (l.0, with_first P t c xs d s h l.1) ] e k
+      | true ↦ λ s l. (subst P (sym (some_is x d s)) h, l)
+      | false ↦ λ s l. (l.0, with_first P t c xs d s h l.1)
+    ] e k
   where
     some_is : (x d : ColumnClaim) → Some x ≡ Some d → x ≡ d
     some_is x d s = cc
@@ -67,8 +70,9 @@ pub none_on : (t c : ℕ) (cs : List ColumnClaim) → first_on t c cs ≡ None �
 none_on t c [] e = refl
 none_on t c (x ∷ xs) e =
     elim (is_on t c x) as (λ b. cond b (Some x) (first_on t c xs) ≡ None → cond b xs (x ∷ but_first_on t c xs) ≡ x ∷ xs) [
-      true ↦ λ s. absurd (some_none x s)
-    | false ↦ λ s. ap (λ l. x ∷ l) (none_on t c xs s) ] e
+      | true ↦ λ s. absurd (some_none x s)
+      | false ↦ λ s. ap (λ l. x ∷ l) (none_on t c xs s)
+    ] e
   where
     some_none : (x : ColumnClaim) → Some x ≡ None → ⊥
     some_none x s = cc
@@ -83,8 +87,9 @@ pub inserted_all : (P : ColumnClaim → Type 0) (c : ColumnClaim) (cs : List Col
 inserted_all P c [] h = h
 inserted_all P c (d ∷ ds) h =
     elim (stands_before d c) as (λ b. AllByRecursion P (cond b (d ∷ inserted c ds) (c ∷ d ∷ ds)) → P c × AllByRecursion P (d ∷ ds)) [
-      true ↦ λ k. let r = inserted_all P c ds k.1 in (r.0, (k.0, r.1))
-    | false ↦ λ k. k ] h
+      | true ↦ λ k. let r = inserted_all P c ds k.1 in (r.0, (k.0, r.1))
+      | false ↦ λ k. k
+    ] h
 
 pub all_ordered : (P : ColumnClaim → Type 0) (cs : List ColumnClaim) → AllByRecursion P cs → AllByRecursion P (by_column cs)
 all_ordered P [] h = tt

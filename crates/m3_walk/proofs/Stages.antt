@@ -5,7 +5,7 @@ use Rattle.poly_forms.specs.declared.check_kind.CheckKind.{CheckKind}
 use Rattle.poly_forms.specs.declared.draw_kind.DrawKind.{DrawKind}
 use Rattle.sumcheck.specs.declared.entry.Entry.{Entry}
 use Rattle.sumcheck.specs.declared.entry.Entry.TheVariants.{Message, Draw}
-use Rattle.sumcheck.specs.Machine.{AtDraw, AtMessage, Filling, Lawful, Machine, RoundIsClaimed}
+use Rattle.sumcheck.specs.Machine.{AtDraw, AtMessage, Filling, Lawful, RoundIsClaimed}
 use Rattle.channel_products.specs.Balancing.{Balancing, balancing, collapsing, multiplying, stated, told, waiting}
 use Rattle.channel_products.specs.Descent.{HasRows, descent}
 use Rattle.zerocheck.specs.Zero.{zerocheck}

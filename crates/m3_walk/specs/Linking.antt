@@ -1,18 +1,14 @@
 -- The reductions of a proof one after another: what each takes of the claims that wait, and what it leaves.
 -- Source: docs/PROOF.md, "The reductions of a proof" and "The claims that wait".
-use Rattle.std.specs.Prelude.{◌≡◌, ◌<◌, ◌≤◌, ◌+◌, ◌-◌, ◌^◌, ◌==◌, ◌&&◌, ℕ, suc, Bool, true, false, cond, List, [], ◌∷◌, ◌++◌, length, map, Option, None, Some, is_some}
+use Rattle.std.specs.Prelude.{◌≡◌, ◌≤◌, ◌+◌, ◌-◌, ◌^◌, ◌==◌, ◌&&◌, ℕ, suc, Bool, true, false, cond, List, [], ◌∷◌, ◌++◌, length, map, Option, None, Some, is_some}
 use Rattle.std.specs.List.{AllByRecursion, filter}
 use Rattle.batch_laws.specs.Batch.{zeros}
-use Rattle.list_laws.specs.CeilLog.{ceil_log}
-use Rattle.poly_forms.specs.declared.check_kind.CheckKind.TheVariants as check
-use Rattle.poly_forms.specs.declared.draw_kind.DrawKind.TheVariants as draw
 use Rattle.sumcheck.specs.declared.column_claim.ColumnClaim.{ColumnClaim}
 use Rattle.sumcheck.specs.declared.entry.Entry.{Entry}
-use Rattle.sumcheck.specs.declared.entry.Entry.TheVariants.{Message, Draw}
 use Rattle.sumcheck.specs.Claim.{Claim}
 use Rattle.sumcheck.specs.Column.{ColumnFits}
 use Rattle.sumcheck.specs.Machine.{Filling}
-use Rattle.sumcheck.specs.Rounds.{rounds, variables}
+use Rattle.sumcheck.specs.Rounds.{variables}
 use Rattle.sumcheck.specs.Summing.{Summed, adding, closed}
 use Rattle.table_shape.specs.Placement.{Block, places_log}
 use Rattle.table_shape.specs.declared.shape.ShapeTerm.{ShapeTerm}
@@ -21,7 +17,6 @@ use Rattle.channel_products.specs.Balancing as balance
 use Rattle.channel_products.specs.Balancing.{Balancing, BalancingFits, BalancingHolds, balancing_entries, balancing_pending, state_balance}
 use Rattle.channel_products.specs.Descent as descent
 use Rattle.channel_products.specs.Descent.{Descent, HasRows, layer_entries, leaf_columns, row_vars, state_product}
-use Rattle.zerocheck.specs.Group.{Group}
 use Rattle.zerocheck.specs.Zero as zero
 use Rattle.zerocheck.specs.Zero.{Zero, ZeroFits, ZeroHolds, state_zero, zero_entries, zero_pending}
 use Rattle.eval_reduce.specs.Linear as linear

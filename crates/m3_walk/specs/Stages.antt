@@ -20,7 +20,6 @@ use Rattle.eval_reduce.specs.Shift.{shift}
 use Rattle.bit_claim.specs.Batching.{batching}
 use Rattle.bit_claim.specs.Bits.{bits}
 use Rattle.ring_switch.specs.Switching.{switching}
-use Rattle.m3_walk.specs.declared.merging.Merging.{Merging}
 use Rattle.m3_walk.specs.declared.stage.Stage.{Stage}
 use Rattle.m3_walk.specs.declared.stage.Stage.TheVariants.{Start, Channels, Flush, Constraints, Merge, Linear, Project, Claimed, Pack, Shift, Bits, Words, Switch}
 
