@@ -1,3 +1,4 @@
+pub mod Ending
 pub mod Keys
 pub mod Leaving
 pub mod Parts
