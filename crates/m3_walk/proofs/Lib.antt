@@ -1,5 +1,6 @@
 pub mod Ending
 pub mod Keys
 pub mod Leaving
+pub mod LeavingFits
 pub mod Parts
 pub mod Stages
