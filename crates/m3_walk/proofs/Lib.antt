@@ -1,4 +1,5 @@
 pub mod Ending
+pub mod Entering
 pub mod Keys
 pub mod Leaving
 pub mod LeavingFits
