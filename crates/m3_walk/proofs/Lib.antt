@@ -1,7 +1,10 @@
 pub mod Ending
 pub mod Entering
+pub mod EnteringFits
 pub mod Keys
 pub mod Leaving
 pub mod LeavingFits
 pub mod Parts
 pub mod Stages
+pub mod Taking
+pub mod WordSteps
