@@ -1,6 +1,7 @@
 pub mod Ending
 pub mod Entering
 pub mod EnteringFits
+pub mod EnteringHolds
 pub mod Keys
 pub mod Leaving
 pub mod LeavingFits
