@@ -5,6 +5,7 @@ pub mod EnteringHolds
 pub mod Keys
 pub mod Leaving
 pub mod LeavingFits
+pub mod Linked
 pub mod Parts
 pub mod Stages
 pub mod Taking
