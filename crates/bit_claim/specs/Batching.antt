@@ -140,7 +140,7 @@ batching = record {
 -- ---- what is stated
 -- the walk takes these claims, each on a column that has a block
 abbrev pub Takes : List ColumnClaim → Batching → Type 0
-Takes cs (waiting bs m) = (length cs < 2 ^ 32) × AllByRecursion (IsPlaced bs) cs
+Takes cs (waiting bs m) = (length cs < 2 ^ 30) × AllByRecursion (IsPlaced bs) cs
 Takes cs (opening bs ds) = ⊥
 Takes cs (summed s) = ⊥
 

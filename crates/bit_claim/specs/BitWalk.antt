@@ -18,5 +18,5 @@ batching_of g t r (Some claim) m = summed (closed claim)
 -- what is known in each stage
 abbrev pub StageFits : Stage → Batched → Rounds → Option BitValue → Type 0
 StageFits Waiting t r o = (o ≡ None) × (with_claim 0 r ≡ sum_claim 2 (places_log t.blocks) [] 0)
-StageFits Opening t r o = (o ≡ None) × ((with_claim 0 r ≡ sum_claim 2 (places_log t.blocks) [] 0) × (length t.claims < 2 ^ 32))
+StageFits Opening t r o = (o ≡ None) × ((with_claim 0 r ≡ sum_claim 2 (places_log t.blocks) [] 0) × (length t.claims < 2 ^ 30))
 StageFits Adding t r o = Unit {0}

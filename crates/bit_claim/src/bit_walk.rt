@@ -1,6 +1,6 @@
 //! The walk of a batch of claims.
 
-ghost use Rattle.std.specs.Prelude.{◌≡◌, ◌≤◌, length, IfOk};
+ghost use Rattle.std.specs.Prelude.{◌≡◌, ◌≤◌, ◌^◌, length, IfOk};
 ghost use Rattle.sumcheck.specs.Summing.{closed};
 ghost use Rattle.bit_claim.specs.Batching.{batching, waiting, summed, room_of, state_claims, BitValue as OnBits, IsDone, Takes};
 
@@ -94,6 +94,21 @@ impl BitWalk {
         }
     }
 
+    /// How many claims are pending. They are few, so that those of many walks can be counted together.
+    pub fn count_pending(&self) -> u32
+        ensures count { result ≡ length (batching.pending self.now) }
+        ensures few { result ≤ 2 ^ 30 }
+    {
+        if self.closed.is_some() {
+            return 1;
+        }
+        match self.stage {
+            Stage::Waiting => 0,
+            Stage::Opening => self.batched.claims().len() as u32,
+            Stage::Adding => 1,
+        }
+    }
+
     /// The claim at the end.
     pub fn leave(self) -> BitValue
         requires { IsDone self }
@@ -166,14 +181,7 @@ impl Steps for BitWalk {
     }
 
     fn pending_count(&self) -> u32 {
-        if self.closed.is_some() {
-            return 1;
-        }
-        match self.stage {
-            Stage::Waiting => 0,
-            Stage::Opening => self.batched.claims().len() as u32,
-            Stage::Adding => 1,
-        }
+        self.count_pending()
     }
 
     fn pending(&self, i: u32) -> Pending<'_> {
