@@ -38,7 +38,7 @@ use Rattle.m3_walk.specs.Stages.{staged}
 use Rattle.m3_walk.proofs.Keys.{descending_places}
 
 -- ---- lists of the same sizes
-filtered : {X Y : Type 0} (f : X → Y) (q : Y → Bool) (xs : List X) → map f (filter (λ x. q (f x)) xs) ≡ filter q (map f xs)
+pub filtered : {X Y : Type 0} (f : X → Y) (q : Y → Bool) (xs : List X) → map f (filter (λ x. q (f x)) xs) ≡ filter q (map f xs)
 filtered f q [] = refl
 filtered f q (x ∷ xs) =
     elim (q (f x)) as (λ t. map f (cond t (x ∷ filter (λ x. q (f x)) xs) (filter (λ x. q (f x)) xs)) ≡ cond t (f x ∷ filter q (map f xs)) (filter q (map f xs))) [
@@ -75,7 +75,7 @@ length-inserted c [] = refl
 length-inserted c (d ∷ ds) =
     elim (stands_before d c) as (λ b. length (cond b (d ∷ inserted c ds) (c ∷ d ∷ ds)) ≡ suc (suc (length ds))) [ true ↦ ap suc (length-inserted c ds) | false ↦ refl ]
 
-length-by_column : (cs : List ColumnClaim) → length (by_column cs) ≡ length cs
+pub length-by_column : (cs : List ColumnClaim) → length (by_column cs) ≡ length cs
 length-by_column [] = refl
 length-by_column (c ∷ cs) = length-inserted c (by_column cs) ∙ ap suc (length-by_column cs)
 

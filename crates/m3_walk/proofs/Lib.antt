@@ -8,5 +8,6 @@ pub mod LeavingFits
 pub mod Linked
 pub mod Parts
 pub mod Stages
+pub mod TakesSteps
 pub mod Taking
 pub mod WordSteps
