@@ -1,3 +1,4 @@
+pub mod AdderPlan
 pub mod Ending
 pub mod Entering
 pub mod EnteringFits
