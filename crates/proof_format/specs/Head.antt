@@ -1,7 +1,8 @@
 -- The head of a proof's file, and the first fault of one.
 -- Source: docs/PROOF.md, "The head".
-use Rattle.std.specs.Prelude.{ℕ, zero, suc, ◌+◌, ◌*◌, ltb, ◌==◌, cond, List, [], ◌∷◌, length, take, drop, slice_index, Option, None, Some}
-use Rattle.std.specs.Int.{from_le_bytes, w32}
+use Rattle.std.specs.Prelude.{ℕ, zero, suc, ◌+◌, ◌*◌, ltb, ◌==◌, cond, List, [], ◌∷◌, length, take, drop, slice_index, Option, None, Some, ◌++◌}
+use Rattle.std.specs.Int.{from_le_bytes, to_le_bytes, w32}
+use Rattle.std.specs.List.{flat_map}
 use Rattle.std.specs.Str.{bytes_eq}
 use Rattle.cube_laws.specs.Sums.{tabulate}
 use Rattle.table_shape.specs.Limits.{max_rows}
@@ -16,6 +17,14 @@ magic = 66 ∷ 77 ∷ 51 ∷ 80 ∷ 82 ∷ 79 ∷ 79 ∷ 70 ∷ []
 
 abbrev pub version : ℕ
 version = 1
+
+-- 4 bytes for each table, the lowest first
+abbrev pub rows_bytes : List ℕ → List ℕ
+rows_bytes rows = flat_map (to_le_bytes w32) rows
+
+-- of the digest of the tables, and the rows of each
+abbrev pub head : List ℕ → List ℕ → List ℕ
+head digest rows = magic ++ version ∷ (digest ++ rows_bytes rows)
 
 -- ---- its fields in a file
 abbrev pub field : ℕ → ℕ → List ℕ → List ℕ

@@ -22,7 +22,9 @@ pub struct Head {
     pub rows: Rows,
 }
 
-const VERSION: u8 = 1;
+pub const MAGIC: [u8; 8] = [66, 77, 51, 80, 82, 79, 79, 70];
+
+pub const VERSION: u8 = 1;
 
 /// How many bytes the head of a proof for these tables has.
 pub fn head_length(shape: &Shape) -> u32
@@ -87,7 +89,7 @@ fn check_magic(bytes: &[u8]) -> Result<(), ProofFault>
 {
     let mut found = [0u8; 8];
     found.copy_from_slice(&bytes[..8]);
-    if found == [66, 77, 51, 80, 82, 79, 79, 70] {
+    if found == MAGIC {
         Ok(())
     } else {
         Err(ProofFault::BadMagic { found })
