@@ -1,3 +1,4 @@
+pub mod HeadAgain
 pub mod HeadSteps
 pub mod NextSteps
 pub mod PieceSteps

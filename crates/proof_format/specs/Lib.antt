@@ -1,4 +1,5 @@
 pub mod Head
+pub mod HeadLaws
 pub mod HeadStop
 pub mod Openings
 pub mod PieceLengths

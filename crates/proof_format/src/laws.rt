@@ -1,5 +1,6 @@
-//! What holds of values, pieces and files: empty functions whose clauses are the laws.
+//! What holds of heads, values, pieces and files: empty functions whose clauses are the laws.
 
+ghost use Rattle.proof_format.specs.HeadLaws.{HeadsAreReadAgain, HeadsAreSpelledAgain};
 ghost use Rattle.proof_format.specs.PieceLengths.{PiecesAreAsLong};
 ghost use Rattle.proof_format.specs.Text.{PartsAreJoinedAgain, PartsAreSplitAgain, ProofsAreHeadAndPieces};
 ghost use Rattle.proof_format.specs.Values.{ValuesAreReadAgain, ValuesAreSpelledAgain};
@@ -22,6 +23,16 @@ pub fn parts_are_split_again()
 /// Bytes that were split into parts are joined again.
 pub fn parts_are_joined_again()
     ensures { PartsAreJoinedAgain }
+{}
+
+/// The head of the rows of some tables is read as those rows, whatever follows.
+pub fn heads_are_read_again()
+    ensures { HeadsAreReadAgain }
+{}
+
+/// The head of the rows that a head without a fault tells is that head.
+pub fn heads_are_spelled_again()
+    ensures { HeadsAreSpelledAgain }
 {}
 
 /// The values that the bytes of values below 2^128 spell are those values.
