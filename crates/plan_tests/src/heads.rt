@@ -25,17 +25,50 @@ fn head_of(alloc: Global, digest: [u8; 32], rows: [u32; 2]) -> Result<Vec<u8>, A
     Ok(bytes)
 }
 
-/// The first fault of a head, one byte of which is another.
-fn changed(alloc: Global, shape: &Shape, at: usize) -> Result<Option<ProofFault>, Fail> {
+/// The first fault of the first `have` bytes of a head, where each change names a byte and the bits of it
+/// that are others.
+fn first_fault(
+    alloc: Global,
+    shape: &Shape,
+    have: usize,
+    changes: &[(usize, u8)],
+) -> Result<Option<ProofFault>, Fail> {
     let mut bytes = head_of(alloc, shape.digest(), [3, 1_048_576])?;
-    if at < bytes.len() {
-        bytes[at] ^= 1;
+    for (at, bits) in changes {
+        if *at < bytes.len() {
+            bytes[*at] ^= *bits;
+        }
     }
-    match read_head(alloc, shape, bytes.as_slice()) {
+    match read_head(alloc, shape, &bytes[..have.min(bytes.len())]) {
         Ok(_) => Ok(None),
         Err(HeadStop::Fault(fault)) => Ok(Some(fault)),
         Err(HeadStop::NoMemory) => Err(AllocError.into()),
     }
+}
+
+/// Another digest than that of the tables, by one byte.
+fn other(kept: [u8; 32], at: usize, bits: u8) -> Option<ProofFault> {
+    let mut found = kept;
+    if at < 32 {
+        found[at] ^= bits;
+    }
+    Some(ProofFault::OtherTables { kept, found })
+}
+
+fn short(have: u64) -> Option<ProofFault> {
+    Some(ProofFault::Short { have, need: 49 })
+}
+
+fn magic(found: &[u8; 8]) -> Option<ProofFault> {
+    Some(ProofFault::BadMagic { found: *found })
+}
+
+fn version(found: u8) -> Option<ProofFault> {
+    Some(ProofFault::BadVersion { found })
+}
+
+fn rows(table: u32, found: u32) -> Option<ProofFault> {
+    Some(ProofFault::BadRows { table, found })
 }
 
 #[test]
@@ -58,17 +91,9 @@ fn rows_are_read(rt: HostRuntime) -> Result<(), Fail> {
 fn short_heads(rt: HostRuntime) -> Result<(), Fail> {
     let alloc = rt.alloc();
     let shape = shape_of(alloc)?;
-    let bytes = head_of(alloc, shape.digest(), [0, 0])?;
     for have in 0..49usize {
-        let fault = match read_head(alloc, &shape, &bytes[..have.min(bytes.len())]) {
-            Err(HeadStop::Fault(fault)) => Some(fault),
-            _ => None,
-        };
-        let short = ProofFault::Short {
-            have: have as u64,
-            need: 49,
-        };
-        assert!(rt; fault == Some(short), "{have}");
+        let fault = first_fault(alloc, &shape, have, &[])?;
+        assert!(rt; fault == short(have as u64), "{have}");
     }
     Ok(())
 }
@@ -77,20 +102,40 @@ fn short_heads(rt: HostRuntime) -> Result<(), Fail> {
 fn first_faults(rt: HostRuntime) -> Result<(), Fail> {
     let alloc = rt.alloc();
     let shape = shape_of(alloc)?;
-    assert!(rt; changed(alloc, &shape, 49)? == None);
-    let magic = ProofFault::BadMagic {
-        found: *b"BM2PROOF",
-    };
-    assert!(rt; changed(alloc, &shape, 2)? == Some(magic));
-    assert!(rt; changed(alloc, &shape, 8)? == Some(ProofFault::BadVersion { found: 0 }));
     let kept = shape.digest();
-    let mut found = kept;
-    found[31] ^= 1;
-    assert!(rt; changed(alloc, &shape, 40)? == Some(ProofFault::OtherTables { kept, found }));
-    let rows = ProofFault::BadRows {
-        table: 1,
-        found: 1_048_577,
-    };
-    assert!(rt; changed(alloc, &shape, 45)? == Some(rows));
+    let cases: [(usize, &[(usize, u8)], Option<ProofFault>); 26] = [
+        (49, &[], None),
+        (50, &[(49, 255)], None),
+        (50, &[(0, 1)], magic(b"CM3PROOF")),
+        (50, &[(2, 1)], magic(b"BM2PROOF")),
+        (50, &[(3, 32)], magic(b"BM3pROOF")),
+        (50, &[(7, 1)], magic(b"BM3PROOG")),
+        (8, &[(7, 1)], magic(b"BM3PROOG")),
+        (7, &[(0, 1)], short(7)),
+        (50, &[(8, 1)], version(0)),
+        (50, &[(8, 2)], version(3)),
+        (50, &[(8, 254)], version(255)),
+        (9, &[(8, 3)], version(2)),
+        (50, &[(0, 1), (8, 1)], magic(b"CM3PROOF")),
+        (50, &[(9, 128)], other(kept, 0, 128)),
+        (50, &[(40, 1)], other(kept, 31, 1)),
+        (41, &[(24, 7)], other(kept, 15, 7)),
+        (40, &[(9, 1)], short(40)),
+        (50, &[(8, 1), (9, 1)], version(0)),
+        (50, &[(41, 3)], None),
+        (50, &[(43, 16)], rows(0, 1_048_579)),
+        (45, &[(44, 128)], rows(0, 2_147_483_651)),
+        (50, &[(45, 1)], rows(1, 1_048_577)),
+        (50, &[(47, 16)], None),
+        (50, &[(48, 1)], rows(1, 17_825_792)),
+        (48, &[(43, 16), (48, 1)], rows(0, 1_048_579)),
+        (48, &[(45, 1)], short(48)),
+    ];
+    for (have, changes, fault) in cases {
+        assert!(rt;
+            first_fault(alloc, &shape, have, changes)? == fault,
+            "{have} {changes:?}"
+        );
+    }
     Ok(())
 }

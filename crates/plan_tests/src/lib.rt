@@ -8,3 +8,5 @@ mod expected;
 mod heads;
 #[cfg(test)]
 mod plans;
+#[cfg(test)]
+mod texts;

@@ -13,14 +13,14 @@ use table_shape::{MAX_ROWS, SizeStop, resolve};
 use table_text::read_tables;
 
 /// One bit in each row: it is its own square.
-const BITS: &[u8] = b"table t { column a : b1; zero z : a*a + a; }";
+pub const BITS: &[u8] = b"table t { column a : b1; zero z : a*a + a; }";
 
 /// Sums of words of 32 bits, each of which is asked for by a boundary.
-const ADDER: &[u8] =
+pub const ADDER: &[u8] =
     b"channel sums : 3; boundary pull sums (1, 2, 3); boundary pull sums (0xffffffff, 1, 0); boundary pull sums (0, 0, 0); table adder { column a : b1 x 32; column b : b1 x 32; column cout : b1 x 32; virtual cin = shl(cout, 5, 1); virtual sum = linear(a + b + cin); virtual a32 = pack(a, 5); virtual b32 = pack(b, 5); virtual s32 = pack(sum, 5); zero carry : (a + cin) * (b + cin) + cin + cout; push sums (a32, b32, s32); }";
 
 /// Whether no table has too many rows.
-fn are_few(rows: &[u32]) -> bool
+pub fn are_few(rows: &[u32]) -> bool
     ensures { IsTrue result → (t : ℕ) → slice_index rows.now t ≤ max_rows }
 {
     for m in rows {
