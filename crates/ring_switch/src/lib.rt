@@ -15,6 +15,7 @@ mod tensor;
 mod tensor_eq;
 mod weighing;
 
+pub use bit_weights::BitWeights;
 pub use laws::switchings_keep_truth;
 pub use no_memory::NoMemory;
 pub use packed_value::PackedValue;
