@@ -9,7 +9,6 @@ use Rattle.std.proofs.Math.Seq.{drop-append-add}
 use Rattle.std.specs.Prelude.{slice_get, slice_index, ◌&&◌}
 use Rattle.std.specs.List.{AllByRecursion, filter}
 use Rattle.tower_laws.specs.Lists.{AllFit}
-use Rattle.cube_laws.specs.Extension.{bit}
 use Rattle.cube_laws.specs.Sums.{tabulate}
 use Rattle.cube_laws.proofs.Weights.{length-tabulate}
 use Rattle.tensor_laws.specs.Tensor.{bits_of_table}
@@ -32,15 +31,11 @@ use Rattle.bit_claim.proofs.Levels.{all_blocks}
 use Rattle.bit_claim.proofs.Numbered.{own_blocks}
 use Rattle.bit_claim.proofs.PartSteps.{size_is}
 use Rattle.bit_claim.proofs.Standing.{held, stand}
-use Rattle.bit_claim.proofs.TablePlaces.{part_fits, positive}
+use Rattle.bit_claim.proofs.PlacedCells.{positive}
+use Rattle.bit_claim.proofs.TablePlaces.{part_fits}
+use Rattle.bit_claim.proofs.WordSums.{length-bits_of_table}
 
 -- ---- the bits of blocks
-pub length-bits_of_table : (n : ℕ) (table : List ℕ) → length (bits_of_table n table) ≡ length table * n
-length-bits_of_table n [] = omega arith
-length-bits_of_table n (t ∷ table) =
-    let more : suc (length table) * n ≡ n + length table * n = grind (arith) in
-    length-append (tabulate n (bit t)) (bits_of_table n table) ∙ (λ i. length-tabulate n (bit t) i + length-bits_of_table n table i) ∙ sym more
-
 -- a block whose column has just its bits
 abbrev HasOwn : Values → Block → Type 0
 HasOwn F b = length (bits_of_table (2 ^ b.level) (F b.table b.column)) ≡ 2 ^ b.log_bits

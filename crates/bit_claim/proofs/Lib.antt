@@ -7,9 +7,13 @@ pub mod Levels
 pub mod BatchLaws
 pub mod PartSteps
 pub mod WalkSteps
+pub mod PlacedCells
 pub mod TablePlaces
 pub mod ProverSteps
 pub mod FilledBits
 pub mod WordSums
 pub mod WordRounds
 pub mod PairSteps
+pub mod LowHigh
+pub mod PackedSteps
+pub mod SumSteps

@@ -15,7 +15,7 @@ use Rattle.sumcheck.proofs.Following.{draw_sets, goes_first, goes_last, goes_pas
 use Rattle.table_shape.specs.Placement.{Block, places_log}
 use Rattle.bit_claim.specs.declared.bit_prover.BitProver.{BitProver}
 use Rattle.bit_claim.specs.BatchFollowing.{FollowsBatch, FollowsSum, Gives, GoesOn, IsNew, Ready, places}
-use Rattle.bit_claim.specs.BatchSum.{second}
+use Rattle.bit_claim.specs.BatchSum.{begun, second}
 use Rattle.bit_claim.specs.Batching.{Batched, Batching, waiting, opening, summed, batch_sum, batching_draw, batching_entries, batching_honest, batching_message}
 use Rattle.bit_claim.specs.Bits.{bits, claim_table}
 
@@ -35,9 +35,6 @@ none_of (Some q) e = absurd cc
 -- the tables of the sum have one length
 pub two_long : (n : ℕ) (a b : List ℕ) (ts : List (List ℕ)) → length a ≡ 2 ^ n → length b ≡ 2 ^ n → ts ≡ a ∷ b ∷ [] → AllLong (2 ^ n) ts
 two_long n a b ts k l t = rw t (k, (l, tt))
-
-abbrev pub begun : Batched → List ℕ → Proving Pair
-begun t cells = record { summand = record {}; degree = 2; left = places_log t.blocks; lists = batched (2 ^ places_log t.blocks) t.lambda (map (claim_table t.blocks) t.claims) ∷ cells ∷ [] }
 
 claimed_is : (n : ℕ) (r : Rounds) → with_claim 0 r ≡ sum_claim 2 n [] 0 → r ≡ sum_claim 2 n [] (claimed r)
 claimed_is n (sum_claim d m z c) h = let a : d ≡ 2 = cc in let b : m ≡ n = cc in let e : z ≡ [] = cc in cc

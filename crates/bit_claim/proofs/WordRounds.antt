@@ -20,8 +20,8 @@ use Rattle.batch_laws.specs.Batch.{batched, pair_sum}
 use Rattle.batch_laws.proofs.Batching.{length-batched}
 use Rattle.tensor_laws.specs.Tensor.{bits_of_table, column}
 use Rattle.bit_claim.specs.Pairs.{pairs_form}
-use Rattle.bit_claim.proofs.FilledBits.{length-bits_of_table}
-use Rattle.bit_claim.proofs.WordSums.{batch_summed, dot_folded, part_summed, spread_all}
+use Rattle.bit_claim.specs.Words.{part_tables}
+use Rattle.bit_claim.proofs.WordSums.{batch_summed, dot_folded, length-bits_of_table, part_summed, spread_all}
 
 -- ---- sums of products
 abbrev pub pair_sums : List (List ℕ) → ℕ
@@ -53,11 +53,6 @@ pair_round n r f g k l =
     round_is_at (dot (fold_low r f) (fold_low r g)) n r (2 ^ n) (pair_sum f g).form (f ∷ g ∷ []) (dot_sum (2 ^ n) (fold_low r f) (fold_low r g) (length-fold_low r (2 ^ n) g l)) refl (k, (l, tt))
 
 -- ---- the tables of a batch's parts
--- for each of its tables the low part, times the power of lambda, and the sums over the words
-abbrev pub part_tables : {X : Type 0} → (X → List ℕ) → (X → List ℕ) → ℕ → List ℕ → ℕ → ℕ → List X → List (List ℕ)
-part_tables low high n words lambda f [] = []
-part_tables low high n words lambda f (c ∷ cs) = map (mul f) (low c) ∷ tabulate n (column (high c) words) ∷ part_tables low high n words lambda (mul f lambda) cs
-
 scaled_folded : (m f : ℕ) (rs low ts : List ℕ) → length low ≡ m * 2 ^ length rs → dot (fold_all rs (map (mul f) low)) ts ≡ mul f (dot (fold_all rs low) ts)
 scaled_folded m f rs low ts e =
     sym (dot_folded m rs (map (mul f) low) ts (length-map low (mul f) ∙ e)) ∙ dot-scale f low (spread_all rs ts) ∙ ap (mul f) (dot_folded m rs low ts e)
@@ -79,16 +74,16 @@ module _ {X : Type 0} (low : X → List ℕ) (high : X → List ℕ) (n m : ℕ)
       ∙ sym (scaled_folded m f rs (low c) (fold_all rs v) (h.0 ∙ size))) i)
       (parts_summed (mul f lambda) cs h.1 i))
 
-length-part_tables : {X : Type 0} (low high : X → List ℕ) (n : ℕ) (words : List ℕ) (lambda f : ℕ) (cs : List X) → length (part_tables low high n words lambda f cs) ≡ 2 * length cs
+pub length-part_tables : {X : Type 0} (low high : X → List ℕ) (n : ℕ) (words : List ℕ) (lambda f : ℕ) (cs : List X) → length (part_tables low high n words lambda f cs) ≡ 2 * length cs
 length-part_tables low high n words lambda f [] = refl
 length-part_tables low high n words lambda f (c ∷ cs) = let h = length-part_tables low high n words lambda (mul f lambda) cs in omega (arith, h)
 
-long_parts : {X : Type 0} (low high : X → List ℕ) (n m : ℕ) (rs words : List ℕ) (lambda f : ℕ) (cs : List X) → n ≡ m * 2 ^ length rs → AllByRecursion (λ c. length (low c) ≡ n) cs → AllLong m (map (fold_all rs) (part_tables low high n words lambda f cs))
+pub long_parts : {X : Type 0} (low high : X → List ℕ) (n m : ℕ) (rs words : List ℕ) (lambda f : ℕ) (cs : List X) → n ≡ m * 2 ^ length rs → AllByRecursion (λ c. length (low c) ≡ n) cs → AllLong m (map (fold_all rs) (part_tables low high n words lambda f cs))
 long_parts low high n m rs words lambda f [] size h = tt
 long_parts low high n m rs words lambda f (c ∷ cs) size h =
     (length-fold_all m rs (map (mul f) (low c)) (length-map (low c) (mul f) ∙ h.0 ∙ size), (length-fold_all m rs (tabulate n (column (high c) words)) (length-tabulate n (column (high c) words) ∙ size), long_parts low high n m rs words lambda (mul f lambda) cs size h.1))
 
-map_twice : {X : Type 0} (f : List ℕ → ℕ) (g : X → List ℕ) (cs : List X) → map f (map g cs) ≡ map (λ c. f (g c)) cs
+pub map_twice : {X : Type 0} (f : List ℕ → ℕ) (g : X → List ℕ) (cs : List X) → map f (map g cs) ≡ map (λ c. f (g c)) cs
 map_twice f g [] = refl
 map_twice f g (c ∷ cs) = ap (λ l. f (g c) ∷ l) (map_twice f g cs)
 

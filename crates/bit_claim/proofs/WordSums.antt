@@ -25,7 +25,7 @@ use Rattle.column_laws.specs.Columns.{placed}
 use Rattle.column_laws.proofs.Placing.{length-placed}
 use Rattle.tensor_laws.specs.Tensor.{bits_of_table, column}
 use Rattle.tensor_laws.proofs.Crossing.{columns_at, dot-kron}
-use Rattle.bit_claim.proofs.FilledBits.{length-bits_of_table}
+use Rattle.bit_claim.specs.Words.{high_part, low_part, rest_of}
 
 -- ---- products of three tables
 kron-append : (ts es us : List ℕ) → kron ts (es ++ us) ≡ kron ts es ++ kron ts us
@@ -62,7 +62,7 @@ append-none (x ∷ xs) = ap (λ l. x ∷ l) (append-none xs)
 kron-one : (ts : List ℕ) → kron ts (1 ∷ []) ≡ ts
 kron-one ts = append-none (map (λ t. mul t 1) ts) ∙ times_ones ts
 
-one-kron : (es : List ℕ) → kron (1 ∷ []) es ≡ es
+pub one-kron : (es : List ℕ) → kron (1 ∷ []) es ≡ es
 one-kron [] = refl
 one-kron (e ∷ es) = λ i. field_one e i ∷ one-kron es i
 
@@ -77,16 +77,6 @@ bits_of-add (suc m) n q =
     let p : 2 * 2 ^ m ≡ 2 ^ suc m = omega arith in
     ap (λ s. bits_of s q) e ∙ ap (λ l. q % 2 ∷ l) (bits_of-add m n (q / 2))
     ∙ ap (λ r. q % 2 ∷ (bits_of m (q / 2) ++ bits_of n r)) (div-div-eq-div-mul q 2 (2 ^ m) ∙ ap (λ w. q / w) p)
-
--- of the lowest k variables a claim's column leaves k - size to the place of its part
-abbrev pub rest_of : ℕ → ℕ → List ℕ → ℕ
-rest_of k i z = k - (i + length z)
-
-abbrev pub low_part : ℕ → ℕ → List ℕ → ℕ → List ℕ
-low_part k i z q = placed i (take (k - i) z) (rest_of k i z) q
-
-abbrev pub high_part : ℕ → ℕ → List ℕ → ℕ → ℕ → List ℕ
-high_part k i z g q = kron (weights (drop (k - i) z)) (weights (bits_of (g - rest_of k i z) (q / 2 ^ rest_of k i z)))
 
 abbrev powers : ℕ → List ℕ
 powers i = tabulate (2 ^ i) (λ u. 2 ^ u)
@@ -208,6 +198,12 @@ fold_all-kron m (r ∷ rs) ts es h =
     ap (fold_all rs) (fold_low-kron r (m * 2 ^ length rs) ts es e) ∙ fold_all-kron m rs (fold_low r ts) es (length-fold_low r (m * 2 ^ length rs) ts e)
 
 -- ---- sums over words
+pub length-bits_of_table : (n : ℕ) (table : List ℕ) → length (bits_of_table n table) ≡ length table * n
+length-bits_of_table n [] = omega arith
+length-bits_of_table n (t ∷ table) =
+    let more : suc (length table) * n ≡ n + length table * n = grind (arith) in
+    length-append (tabulate n (bit t)) (bits_of_table n table) ∙ (λ i. length-tabulate n (bit t) i + length-bits_of_table n table i) ∙ sym more
+
 times_assoc : (a b c : ℕ) → a * (b * c) ≡ a * b * c
 times_assoc a b c = grind arith
 
@@ -276,7 +272,7 @@ fold_low-sums r half (a ∷ c ∷ xs) (b ∷ d ∷ ys) h k = λ i. line_sum r a 
     line_sum : (r a b c d : ℕ) → bit_xor (bit_xor a b) (mul r (bit_xor (bit_xor a b) (bit_xor c d))) ≡ bit_xor (bit_xor a (mul r (bit_xor a c))) (bit_xor b (mul r (bit_xor b d)))
     line_sum r a b c d = identity (r ∷ a ∷ b ∷ c ∷ d ∷ []) (search field_terms depth 60 fits 20000) refl
 
-fold_low-times : (r c : ℕ) (ts : List ℕ) → fold_low r (map (mul c) ts) ≡ map (mul c) (fold_low r ts)
+pub fold_low-times : (r c : ℕ) (ts : List ℕ) → fold_low r (map (mul c) ts) ≡ map (mul c) (fold_low r ts)
 fold_low-times r c [] = refl
 fold_low-times r c (a ∷ []) = refl
 fold_low-times r c (a ∷ b ∷ ts) = λ i. line_times r c a b i ∷ fold_low-times r c ts i

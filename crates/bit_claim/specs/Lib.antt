@@ -8,3 +8,6 @@ pub mod BitTable
 pub mod BatchSum
 pub mod BatchFollowing
 pub mod Pairs
+pub mod Words
+pub mod PackedSum
+pub mod SumForm

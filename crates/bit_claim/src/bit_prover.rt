@@ -39,16 +39,17 @@ pub struct BitProver {
 }
 
 /// Appends a round, or the last message, and answers the value that this tells.
-fn give(sum: &BitSum, out: &mut Vec<B128>) -> Result<Option<B128>, sumcheck::NoMemory>
-    ensures { IfOk result (λ told. Gives sum.now told out.old.items out.new.items) }
+fn give(sum: &mut BitSum, out: &mut Vec<B128>) -> Result<Option<B128>, NoMemory>
+    ensures kept { sum.new ≡ sum.old }
+    ensures given { IfOk result (λ told. Gives sum.old told out.old.items out.new.items) }
 {
     if sum.left() > 0 {
         sum.round(out)?;
         return Ok(None);
     }
-    let value = sum.bits_value();
+    let value = sum.bits_value()?;
     if out.push(value).is_err() {
-        return Err(sumcheck::NoMemory);
+        return Err(NoMemory);
     }
     Ok(Some(value))
 }
@@ -72,7 +73,9 @@ impl BitProver {
     }
 
     /// The same from the packed table: word w has the bits of places 128·w to 128·w + 127, the lowest
-    /// first. It keeps the words until its first message, which unpacks them.
+    /// first. The words stay packed: until seven challenges have come, the prover has 256 elements for
+    /// each claim beside them, and then two tables of an element for each word. Only where there are
+    /// more claims than words, or none, does its first message unpack them.
     pub fn begin_packed(
         alloc: Global,
         placement: &Placement,
@@ -151,7 +154,9 @@ impl BitProver {
             return Ok(());
         }
         let bits = std::mem::replace(&mut self.bits, BitTable::of_elements(Vec::new(self.alloc)));
-        let sum = BitSum::begin(self.alloc, &self.batched, bits)?;
+        let none = Batched::none(self.alloc, Placement::none(self.alloc));
+        let batched = std::mem::replace(&mut self.batched, none);
+        let sum = BitSum::begin(self.alloc, batched, bits)?;
         self.sum = Some(sum);
         Ok(())
     }
@@ -166,10 +171,13 @@ impl Honest for BitProver {
         let Ok(()) = self.start() else {
             return Err(sumcheck::NoMemory);
         };
-        let Some(sum) = &self.sum else {
+        let Some(sum) = &mut self.sum else {
             unreachable!();
         };
-        if let Some(value) = give(sum, out)? {
+        let Ok(told) = give(sum, out) else {
+            return Err(sumcheck::NoMemory);
+        };
+        if let Some(value) = told {
             self.value = value;
         }
         Ok(())

@@ -1,6 +1,6 @@
 //! The table of all bits as a prover holds it.
 
-ghost use Rattle.std.specs.Prelude.{◌≡◌, ◌<◌, ◌≤◌, ◌++◌, IfOk};
+ghost use Rattle.std.specs.Prelude.{◌≡◌, ◌<◌, ◌≤◌, ◌++◌, IfErr, IfOk};
 ghost use Rattle.cube_laws.specs.Extension.{bit};
 ghost use Rattle.cube_laws.specs.Sums.{tabulate};
 ghost use Rattle.tensor_laws.specs.Tensor.{bits_of_table};
@@ -50,6 +50,18 @@ impl BitTable {
     {
         BitTable {
             held: Held::Words(words),
+        }
+    }
+
+    /// The words, or the same table where it is not packed.
+    pub fn try_into_words(self) -> Result<Vec<B128>, BitTable>
+        ensures words { IfOk result (λ words. self ≡ bits_of_table 128 words.items) }
+        ensures same { IfErr result (λ bits. bits ≡ self) }
+    {
+        let BitTable { held } = self;
+        match held {
+            Held::Words(words) => Ok(words),
+            Held::Elements(bits) => Err(BitTable::of_elements(bits)),
         }
     }
 

@@ -9,12 +9,17 @@ mod bit_sum;
 mod bit_table;
 mod bit_value;
 mod bit_walk;
+mod cells;
 mod laws;
 mod no_memory;
+mod packed_sum;
+mod packed_tables;
 mod pairs;
 mod part;
 mod placement;
 mod room;
+mod sum_form;
+mod word_parts;
 
 pub use bit_prover::BitProver;
 pub use bit_value::BitValue;

@@ -18,6 +18,18 @@ impl From<cube_mle::NoMemory> for NoMemory {
     }
 }
 
+impl From<packed_words::NoMemory> for NoMemory {
+    fn from(_: packed_words::NoMemory) -> NoMemory {
+        NoMemory
+    }
+}
+
+impl From<ring_switch::NoMemory> for NoMemory {
+    fn from(_: ring_switch::NoMemory) -> NoMemory {
+        NoMemory
+    }
+}
+
 impl From<sumcheck::NoMemory> for NoMemory {
     fn from(_: sumcheck::NoMemory) -> NoMemory {
         NoMemory

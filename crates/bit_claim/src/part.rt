@@ -50,7 +50,7 @@ pub fn claim_at(placement: &Placement, point: &[B128], claim: &ColumnClaim) -> B
 }
 
 /// The first coordinates of a point, and the others.
-fn split(point: &[B128], count: usize) -> (&[B128], &[B128])
+pub(crate) fn split(point: &[B128], count: usize) -> (&[B128], &[B128])
     ensures first { result.0.now ≡ take count point.now }
     ensures rest { result.1.now ≡ drop count point.now }
 {

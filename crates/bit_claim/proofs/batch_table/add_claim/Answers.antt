@@ -1,7 +1,8 @@
 use Rattle.std.proofs.Common.{◌≡◌, ◌*◌, ◌%◌, ◌^◌, length, ◌∙◌, ap, subst, arith}
 use Rattle.bit_claim.specs.declared.part.Part.{Part}
 use Rattle.bit_claim.specs.Bits.{level_in, part_in, size_in}
-use Rattle.bit_claim.proofs.TablePlaces.{Cells, bits_long, cells_of, claim_added, first_is, part_fits, product_at, weights_scaled}
+use Rattle.bit_claim.proofs.PlacedCells.{Cells, cells_of, product_at, weights_scaled}
+use Rattle.bit_claim.proofs.TablePlaces.{bits_long, claim_added, first_is, part_fits}
 use Rattle.bit_claim.proofs.batch_table.add_claim.Goals as goal
 
 pub overflow_mul-first : goal.overflow_mul-first

@@ -3,8 +3,8 @@ use Rattle.std.proofs.lemmas.Nat.{one_shl}
 use Rattle.std.proofs.Math.Nat.{div-lt_iff_lt-mul}
 use Rattle.cube_laws.proofs.Rounds.{index_value}
 use Rattle.tower_laws.specs.Tower.{mul}
-use Rattle.bit_claim.proofs.TablePlaces.{cells_more, cells_start, positive, product_at}
-use Rattle.bit_claim.proofs.batch_table.add_values.Goals as goal
+use Rattle.bit_claim.proofs.PlacedCells.{cells_more, cells_start, positive, product_at}
+use Rattle.bit_claim.proofs.cells.add_values.Goals as goal
 
 pub loop-k-init : goal.loop-k-init
 loop-k-init c = cells_start c.args.cells.now.items c.args.first (product_at c.args.level c.args.weights.now)

@@ -1,6 +1,6 @@
 use Rattle.std.proofs.Common.{◌≡◌, ℕ, ◌<◌, ◌≤◌, length, slice_index}
 use Rattle.tower_laws.specs.Tower.{mul}
-use Rattle.bit_claim.proofs.batch_table.scale.Given as goal
+use Rattle.bit_claim.proofs.cells.scale.Given as goal
 
 abbrev pub invariant-loop-i : goal.invariant-loop-i
 invariant-loop-i l = record {

@@ -1,7 +1,7 @@
 use Rattle.std.proofs.Common.{◌≡◌, ◌++◌, ◌∷◌, [], sym, ◌∙◌, ap, arith}
 use Rattle.std.proofs.lemmas.Grind.{common_steps}
 use Rattle.cube_laws.proofs.Weights.{tabulate-add}
-use Rattle.bit_claim.proofs.batch_table.zero_table.Goals as goal
+use Rattle.bit_claim.proofs.cells.zero_table.Goals as goal
 
 pub loop-preserved : goal.loop-preserved
 loop-preserved c =

@@ -5,7 +5,7 @@ use Rattle.sumcheck.specs.Proving.{Proving}
 use Rattle.sumcheck.specs.declared.summand.Pair.{Pair}
 use Rattle.table_shape.specs.Placement.{places_log}
 use Rattle.bit_claim.proofs.ProverSteps.{two_long}
-use Rattle.bit_claim.proofs.bit_sum.BitSum.begin.Goals as goal
+use Rattle.bit_claim.proofs.sum_form.by_tables.Goals as goal
 
 pub begin-requires-clause-long : goal.begin-requires-clause-long
 begin-requires-clause-long c =
@@ -30,10 +30,3 @@ returns-clause-long c =
     let t : c.push-2.new.self ≡ c.from_vec.result ∷ c.from_vec-2.result ∷ [] = grind (arith, common_steps) in
     let long = two_long n c.from_vec.result c.from_vec-2.result c.push-2.new.self (ap length c.from_vec.ensures ∙ c.in_ok-table.ensures.long) (ap length (c.from_vec-2.ensures ∙ c.in_ok-cells.ensures) ∙ c.requires) t in
     subst (λ (p : Proving Pair). AllLong (2 ^ n) p.lists) (sym (c.in_ok-sum.ensures n long)) long
-
-pub invariant_of-result : goal.invariant_of-result
-invariant_of-result c =
-    let n = places_log c.args.batch.now.blocks in
-    let t : c.push-2.new.self ≡ c.from_vec.result ∷ c.from_vec-2.result ∷ [] = grind (arith, common_steps) in
-    let long = two_long n c.from_vec.result c.from_vec-2.result c.push-2.new.self (ap length c.from_vec.ensures ∙ c.in_ok-table.ensures.long) (ap length (c.from_vec-2.ensures ∙ c.in_ok-cells.ensures) ∙ c.requires) t in
-    ap (λ (p : Proving Pair). length p.lists) (c.in_ok-sum.ensures n long) ∙ ap length t

@@ -1,6 +1,6 @@
 use Rattle.std.proofs.Common.{◌≡◌, ◌*◌, ◌∙◌, ap, length, arith}
 use Rattle.tensor_laws.specs.Tensor.{bits_of_table}
-use Rattle.bit_claim.proofs.FilledBits.{length-bits_of_table}
+use Rattle.bit_claim.proofs.WordSums.{length-bits_of_table}
 use Rattle.bit_claim.proofs.bit_prover.BitProver.begin_packed.Goals as goal
 
 pub begin_with-requires : goal.begin_with-requires
