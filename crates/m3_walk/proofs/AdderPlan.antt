@@ -108,7 +108,6 @@ roomy k r t =
     let products = leb-true (length k.products) 1 b.0 in
     record {
       columns = omega arith;
-      room = omega arith;
       products = omega arith;
       bits = leb-true (length k.bits) 1 c.0;
       packed = leb-true (length k.packed) 1 c.1;

@@ -32,8 +32,11 @@ use Rattle.bit_claim.specs.Batching.{Batching, BitValue}
 use Rattle.ring_switch.specs.Switching as switch
 use Rattle.m3_walk.specs.declared.stage.Stage.{Stage}
 use Rattle.m3_walk.specs.declared.stage.Stage.TheVariants.{Start, Channels, Flush, Constraints, Merge as Merges, Linear as Combines, Project as Projects, Claimed, Pack as Packs, Shift as Shifts, Bits, Words, Switch}
-use Rattle.m3_walk.specs.Kept.{Kept, Packed, Product, by_column, inserted, is_on, on_column, stands_before}
-use Rattle.m3_walk.specs.Linking.{Place, Sizes, blank, blank_claim, but_first, but_first_on, but_first_place, enter_bits, enter_linear, enter_merge, enter_pack, enter_project, enter_shift, entered, first_on, flush_places, flush_with, has_block, is_elsewhere, is_place, on_claim, place_has_block, place_has_no_block, place_of, plan_with, sizes, sizes_after, sizes_left, stay_bits, stay_linear, stay_merge, stay_pack, stay_project, stay_shift, staying, switch_with, term_places}
+use Rattle.claim_lists.specs.ByColumn.{by_column, inserted, stands_before}
+use Rattle.claim_lists.specs.OnColumn.{is_on, on_column, but_first_on, first_on}
+use Rattle.m3_walk.specs.declared.product.Product.{Product}
+use Rattle.m3_walk.specs.Kept.{Kept, Packed}
+use Rattle.m3_walk.specs.Linking.{Place, Sizes, blank, blank_claim, but_first, but_first_place, enter_bits, enter_linear, enter_merge, enter_pack, enter_project, enter_shift, entered, flush_places, flush_with, has_block, is_elsewhere, is_place, on_claim, place_has_block, place_has_no_block, place_of, plan_with, sizes, sizes_after, sizes_left, stay_bits, stay_linear, stay_merge, stay_pack, stay_project, stay_shift, staying, switch_with, term_places}
 use Rattle.m3_walk.specs.Stages.{staged}
 use Rattle.m3_walk.proofs.Keys.{descending_places}
 

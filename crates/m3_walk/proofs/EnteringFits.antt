@@ -20,7 +20,9 @@ use Rattle.bit_claim.specs.Batching.{Batching, BitValue}
 use Rattle.bit_claim.specs.Bits.{Stands}
 use Rattle.m3_walk.specs.declared.stage.Stage.{Stage}
 use Rattle.m3_walk.specs.declared.stage.Stage.TheVariants.{Start, Channels, Flush, Constraints, Merge as Merges, Linear as Combines, Project as Projects, Claimed, Pack as Packs, Shift as Shifts, Bits, Words, Switch}
-use Rattle.m3_walk.specs.Kept.{BitFits, Kept, KeptFits, Product, is_off, is_on}
+use Rattle.claim_lists.specs.OnColumn.{is_off, is_on}
+use Rattle.m3_walk.specs.declared.product.Product.{Product}
+use Rattle.m3_walk.specs.Kept.{BitFits, Kept, KeptFits}
 use Rattle.m3_walk.specs.Linking.{BitsFit, LinearFits, MergeFits, PackFits, ProjectFits, ShiftFits, WaitingFits, but_first, enter_bits, enter_linear, enter_merge, enter_pack, enter_project, enter_shift, entered, flush_with, has_block, has_no_block, stay_bits, stay_linear, stay_merge, stay_pack, stay_project, stay_shift, staying, switch_with}
 use Rattle.m3_walk.specs.Stages.{StageFits}
 use Rattle.m3_walk.proofs.Parts.{all_kept, all_ordered}

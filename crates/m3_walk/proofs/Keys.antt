@@ -32,7 +32,8 @@ use Rattle.ring_switch.specs.Switching as switch
 use Rattle.ring_switch.specs.Switching.{Switching, switching}
 use Rattle.m3_walk.specs.declared.stage.Stage.{Stage}
 use Rattle.m3_walk.specs.declared.stage.Stage.TheVariants.{Start, Channels, Flush, Constraints, Merge as Merges, Linear as Combines, Project as Projects, Claimed, Pack as Packs, Shift as Shifts, Bits, Words, Switch}
-use Rattle.m3_walk.specs.Kept.{Kept, Packed, Product}
+use Rattle.m3_walk.specs.declared.product.Product.{Product}
+use Rattle.m3_walk.specs.Kept.{Kept, Packed}
 use Rattle.m3_walk.specs.Linking.{Place, Sizes, balance_flushes, bits_left, bits_sizes, descent_left, descent_places, flush_places, left, linear_left, merge_left, pack_left, packed_left, products_left, shift_left, zero_left, linear_places, merge_places, pack_places, packed_sizes, place_of, places_on, products_with, shift_places, sizes, sizes_left, term_places, zero_places}
 use Rattle.m3_walk.specs.Stages.{staged}
 use Rattle.m3_walk.proofs.Leaving.{still_due}

@@ -29,7 +29,8 @@ use Rattle.ring_switch.specs.Switching as switch
 use Rattle.ring_switch.specs.Switching.{Switching, switching}
 use Rattle.m3_walk.specs.declared.stage.Stage.{Stage}
 use Rattle.m3_walk.specs.declared.stage.Stage.TheVariants.{Start, Channels, Flush, Constraints, Merge as Merges, Linear as Combines, Project as Projects, Claimed, Pack as Packs, Shift as Shifts, Bits, Words, Switch}
-use Rattle.m3_walk.specs.Kept.{BitHolds, Kept, KeptFits, KeptHolds, Packed, PackedHolds, Product, ProductHolds}
+use Rattle.m3_walk.specs.declared.product.Product.{Product}
+use Rattle.m3_walk.specs.Kept.{BitHolds, Kept, KeptFits, KeptHolds, Packed, PackedHolds, ProductHolds}
 use Rattle.m3_walk.specs.Linking.{bits_left, descent_left, left, linear_left, merge_left, pack_left, packed_left, products_left, products_with, shift_left, zero_left}
 use Rattle.m3_walk.specs.Stages.{StageFits, StageHolds, packed_filling, staged}
 use Rattle.m3_walk.proofs.Parts.{all_joined, first_part, second_part}

@@ -24,7 +24,8 @@ use Rattle.bit_claim.specs.Batching as batch
 use Rattle.bit_claim.specs.Batching.{Batching, BitValue, batching}
 use Rattle.m3_walk.specs.declared.stage.Stage.{Stage}
 use Rattle.m3_walk.specs.declared.stage.Stage.TheVariants.{Start, Channels, Flush, Constraints, Merge as Merges, Linear as Combines, Project as Projects, Claimed, Pack as Packs, Shift as Shifts, Bits, Words, Switch}
-use Rattle.m3_walk.specs.Kept.{BitFits, Kept, KeptFits, Product}
+use Rattle.m3_walk.specs.declared.product.Product.{Product}
+use Rattle.m3_walk.specs.Kept.{BitFits, Kept, KeptFits}
 use Rattle.m3_walk.specs.Linking.{bits_left, descent_left, left, linear_left, merge_left, pack_left, products_left, products_with, shift_left, zero_left}
 use Rattle.m3_walk.specs.Stages.{StageFits, flushes_in, staged}
 use Rattle.m3_walk.proofs.Parts.{all_joined}

@@ -3,6 +3,8 @@ pub mod Ending
 pub mod Entering
 pub mod EnteringFits
 pub mod EnteringHolds
+pub mod HandOver
+pub mod KeptSteps
 pub mod Keys
 pub mod Leaving
 pub mod LeavingFits

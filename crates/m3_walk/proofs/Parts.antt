@@ -2,8 +2,8 @@
 use Rattle.std.proofs.Common.{◌≡◌, ℕ, Bool, true, false, cond, List, [], ◌∷◌, ◌++◌, None, Some, refl, sym, ap, subst}
 use Rattle.std.specs.List.{AllByRecursion, filter}
 use Rattle.sumcheck.specs.declared.column_claim.ColumnClaim.{ColumnClaim}
-use Rattle.m3_walk.specs.Kept.{by_column, inserted, is_on, stands_before}
-use Rattle.m3_walk.specs.Linking.{but_first_on, first_on}
+use Rattle.claim_lists.specs.ByColumn.{by_column, inserted, stands_before}
+use Rattle.claim_lists.specs.OnColumn.{is_on, but_first_on, first_on}
 
 -- ---- joined
 pub all_joined : {X : Type 0} (P : X → Type 0) (xs ys : List X) → AllByRecursion P xs → AllByRecursion P ys → AllByRecursion P (xs ++ ys)

@@ -15,8 +15,10 @@ use Rattle.bit_claim.specs.Batching.{BitValue}
 use Rattle.bit_claim.specs.Bits.{IsPlaced}
 use Rattle.ring_switch.specs.Switching as switch
 use Rattle.ring_switch.specs.Switching.{Switching}
-use Rattle.m3_walk.specs.Kept.{Product, by_column, is_on, on_column}
-use Rattle.m3_walk.specs.Linking.{AllOfVars, HasBlock, IsFor, IsOne, Place, TakesBits, TakesMerge, TakesWords, first_on, has_block, has_no_block, is_place, place_of}
+use Rattle.claim_lists.specs.ByColumn.{by_column}
+use Rattle.claim_lists.specs.OnColumn.{is_on, on_column, first_on}
+use Rattle.m3_walk.specs.declared.product.Product.{Product}
+use Rattle.m3_walk.specs.Linking.{AllOfVars, HasBlock, IsFor, IsOne, Place, TakesBits, TakesMerge, TakesWords, has_block, has_no_block, is_place, place_of}
 use Rattle.m3_walk.proofs.Entering.{filtered, length-by_column}
 use Rattle.m3_walk.proofs.Parts.{all_ordered}
 

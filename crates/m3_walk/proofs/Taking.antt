@@ -9,8 +9,9 @@ use Rattle.sumcheck.proofs.RowSteps.{same_exponent}
 use Rattle.eval_reduce.specs.Virtual.{IsOn}
 use Rattle.m3_walk.specs.declared.stage.Stage.{Stage}
 use Rattle.m3_walk.specs.declared.stage.Stage.TheVariants.{Start}
-use Rattle.m3_walk.specs.Kept.{Kept, KeptFits, KeptHolds, is_on}
-use Rattle.m3_walk.specs.Linking.{but_first_on, first_on, on_claim}
+use Rattle.claim_lists.specs.OnColumn.{is_on, but_first_on, first_on}
+use Rattle.m3_walk.specs.Kept.{Kept, KeptFits, KeptHolds}
+use Rattle.m3_walk.specs.Linking.{on_claim}
 use Rattle.m3_walk.specs.Stages.{StageFits, StageHolds}
 use Rattle.m3_walk.proofs.Parts.{all_but_first, none_on, the_first, with_first}
 

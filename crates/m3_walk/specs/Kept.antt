@@ -14,14 +14,8 @@ use Rattle.channel_products.specs.Channels.{product_of}
 use Rattle.channel_products.specs.Descent.{HasRows}
 use Rattle.bit_claim.specs.Batching.{BitValue}
 use Rattle.bit_claim.specs.Bits.{bits}
+use Rattle.m3_walk.specs.declared.product.Product.{Product}
 use Rattle.m3_walk.specs.Stages.{words}
-
--- the product of a flush's leaves is the value
-pub record Product : Type 0 where
-  pub flushed : Flushed
-  pub alpha : ℕ
-  pub gamma : ℕ
-  pub value : ℕ
 
 -- the extension of the packed table at the point is the value
 pub record Packed : Type 0 where
@@ -37,8 +31,15 @@ pub record Kept : Type 0 where
   -- at most one each, at the end
   pub bits : List BitValue
   pub packed : List Packed
-  -- there is memory for so many claims on columns
+  -- there is memory for so many claims on columns, and for so many products
   pub room : ℕ
+
+-- the most of either
+abbrev pub max_room : ℕ
+max_room = 2 ^ 27
+
+abbrev pub none_wait : ℕ → Kept
+none_wait room = record { products = []; columns = []; bits = []; packed = []; room = room }
 
 -- ---- what is true
 abbrev pub ProductHolds : Filling → Product → Type 0
@@ -74,29 +75,3 @@ product_claim p = flush_product p.flushed.table p.flushed.number p.alpha p.gamma
 
 abbrev pub kept_claims : Kept → List Claim
 kept_claims w = map product_claim w.products ++ map column_value w.columns ++ map (λ (b : BitValue). bit_value b.point b.value) w.bits ++ map (λ (p : Packed). packed_value p.point p.value) w.packed
-
--- ---- taken out and put in
--- those on column c of table t, and the others
-abbrev pub is_on : ℕ → ℕ → ColumnClaim → Bool
-is_on t c claim = claim.table == t && claim.column == c
-
-abbrev pub is_off : ℕ → ℕ → ColumnClaim → Bool
-is_off t c claim = cond (is_on t c claim) false true
-
-abbrev pub on_column : ℕ → ℕ → List ColumnClaim → List ColumnClaim
-on_column t c cs = filter (is_on t c) cs
-
-abbrev pub off_column : ℕ → ℕ → List ColumnClaim → List ColumnClaim
-off_column t c cs = filter (is_off t c) cs
-
--- by the order of the tables and of their columns; those on one column stay in their order
-abbrev pub stands_before : ColumnClaim → ColumnClaim → Bool
-stands_before c d = ltb c.table d.table || (c.table == d.table && ltb c.column d.column)
-
-abbrev pub inserted : ColumnClaim → List ColumnClaim → List ColumnClaim
-inserted c [] = c ∷ []
-inserted c (d ∷ ds) = cond (stands_before d c) (d ∷ inserted c ds) (c ∷ d ∷ ds)
-
-abbrev pub by_column : List ColumnClaim → List ColumnClaim
-by_column [] = []
-by_column (c ∷ cs) = inserted c (by_column cs)

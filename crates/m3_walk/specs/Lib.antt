@@ -2,3 +2,4 @@ pub mod Kept
 pub mod Linked
 pub mod Linking
 pub mod Stages
+pub mod Taking

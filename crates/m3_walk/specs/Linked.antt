@@ -54,12 +54,10 @@ Takes (Bits b) k = TakesBits b k.columns
 Takes (Words s) k = TakesWords s k.bits
 Takes (Switch s) k = ⊥
 
--- there is memory for the claims on columns, and they can be counted with the others
+-- there is memory for what waits
 pub record HasRoom (k : Sizes) : Type 0 where
+  pub products : length k.products ≤ k.room
   pub columns : length k.columns ≤ k.room
-  pub room : k.room ≤ 2 ^ 27
-  -- one for each flush
-  pub products : length k.products ≤ 2 ^ 12
   pub bits : length k.bits ≤ 1
   pub packed : length k.packed ≤ 1
 

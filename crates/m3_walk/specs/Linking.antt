@@ -1,6 +1,6 @@
 -- The reductions of a proof one after another: what each takes of the claims that wait, and what it leaves.
 -- Source: docs/PROOF.md, "The reductions of a proof" and "The claims that wait".
-use Rattle.std.specs.Prelude.{◌≡◌, ◌≤◌, ◌+◌, ◌-◌, ◌^◌, ◌==◌, ◌&&◌, ℕ, suc, Bool, true, false, cond, List, [], ◌∷◌, ◌++◌, length, map, Option, None, Some, is_some}
+use Rattle.std.specs.Prelude.{◌≡◌, ◌≤◌, ◌+◌, ◌-◌, ◌^◌, ◌==◌, ◌&&◌, ℕ, suc, Bool, true, false, cond, List, [], ◌∷◌, ◌++◌, length, map, Option, None, Some, is_some, option_to_list}
 use Rattle.std.specs.List.{AllByRecursion, filter}
 use Rattle.batch_laws.specs.Batch.{zeros}
 use Rattle.sumcheck.specs.declared.column_claim.ColumnClaim.{ColumnClaim}
@@ -36,7 +36,10 @@ use Rattle.ring_switch.specs.Switching as switch
 use Rattle.ring_switch.specs.Switching.{Switching, valued}
 use Rattle.m3_walk.specs.declared.stage.Stage.{Stage}
 use Rattle.m3_walk.specs.declared.stage.Stage.TheVariants.{Start, Channels, Flush, Constraints, Merge as Merges, Linear as Combines, Project as Projects, Claimed, Pack as Packs, Shift as Shifts, Bits, Words, Switch}
-use Rattle.m3_walk.specs.Kept.{Kept, Packed, Product, by_column, is_on, off_column, on_column}
+use Rattle.claim_lists.specs.ByColumn.{by_column}
+use Rattle.claim_lists.specs.OnColumn.{but_first_on, first_on, off_column, on_column}
+use Rattle.m3_walk.specs.declared.product.Product.{Product}
+use Rattle.m3_walk.specs.Kept.{Kept, Packed}
 use Rattle.m3_walk.specs.Stages.{flushes_in, staged}
 
 -- ---- what is known of the claims that wait, before any message
@@ -52,6 +55,9 @@ pub record Sizes : Type 0 where
   pub bits : List ℕ
   pub packed : List ℕ
   pub room : ℕ
+
+abbrev pub none_known : Sizes
+none_known = record { products = []; columns = []; bits = []; packed = []; room = 0 }
 
 abbrev pub place_of : ColumnClaim → Place
 place_of c = record { table = c.table; column = c.column; vars = length c.point }
@@ -72,14 +78,6 @@ abbrev pub is_elsewhere : ℕ → ℕ → Place → Bool
 is_elsewhere t c p = cond (is_place t c p) false true
 
 -- ---- one claim on a column, and the others
-abbrev pub first_on : ℕ → ℕ → List ColumnClaim → Option ColumnClaim
-first_on t c [] = None
-first_on t c (d ∷ ds) = cond (is_on t c d) (Some d) (first_on t c ds)
-
-abbrev pub but_first_on : ℕ → ℕ → List ColumnClaim → List ColumnClaim
-but_first_on t c [] = []
-but_first_on t c (d ∷ ds) = cond (is_on t c d) ds (d ∷ but_first_on t c ds)
-
 abbrev pub but_first_place : ℕ → ℕ → List Place → List Place
 but_first_place t c [] = []
 but_first_place t c (p ∷ ps) = cond (is_place t c p) ps (p ∷ but_first_place t c ps)
@@ -305,9 +303,9 @@ Waits F (Switch s) = Unit {0}
 
 abbrev pub waiting_claims : Stage → List Claim
 waiting_claims Start = []
-waiting_claims (Channels b) = balancing_pending (state_balance b)
+waiting_claims (Channels b) = option_to_list (balance.unstated b)
 waiting_claims (Flush d) = []
-waiting_claims (Constraints z) = zero_pending (state_zero z)
+waiting_claims (Constraints z) = option_to_list (zero.unstated z)
 waiting_claims (Merges m) = []
 waiting_claims (Combines l) = []
 waiting_claims (Projects p) = []
