@@ -88,12 +88,12 @@ pub backwards_more : (cs : List ColumnShape) (c : ColumnShape) → backwards (cs
 backwards_more [] c = refl
 backwards_more (x ∷ xs) c = ap (λ ys. ys ++ x ∷ []) (backwards_more xs c)
 
-take_more : (cs : List ColumnShape) (i : ℕ) (c : ColumnShape) → i < length cs → c ≡ get_or cs i c → take (suc i) cs ≡ take i cs ++ c ∷ []
+pub take_more : (cs : List ColumnShape) (i : ℕ) (c : ColumnShape) → i < length cs → c ≡ get_or cs i c → take (suc i) cs ≡ take i cs ++ c ∷ []
 take_more [] i c h e = absurd (omega arith)
 take_more (x ∷ xs) zero c h e = ap (λ y. y ∷ []) (sym e)
 take_more (x ∷ xs) (suc i) c h e = ap (λ ys. x ∷ ys) (take_more xs i c (omega arith) e)
 
-length_backwards : (cs : List ColumnShape) (i : ℕ) → i ≤ length cs → length (backwards (take i cs)) ≡ i
+pub length_backwards : (cs : List ColumnShape) (i : ℕ) → i ≤ length cs → length (backwards (take i cs)) ≡ i
 length_backwards cs zero h = refl
 length_backwards [] (suc i) h = absurd (omega arith)
 length_backwards (x ∷ xs) (suc i) h = length_last (backwards (take i xs)) ∙ ap suc (length_backwards xs i (omega arith))

@@ -115,7 +115,7 @@ groups_bounded rows t (table ∷ tables) few h =
     both (length logs * 1000) (length tables * 8000) (suc (length tables) * 8000) (flat_map (group_entries (slice_index rows t) table) logs) (constraint_entries rows (t + 1) tables) own (groups_bounded rows (t + 1) tables few h.1) (omega arith)
 
 -- ---- claims on columns
-times_few : (c : ℕ) (ks : List ℕ) → times_in c ks ≤ length ks
+pub times_few : (c : ℕ) (ks : List ℕ) → times_in c ks ≤ length ks
 times_few c [] = omega arith
 times_few c (k ∷ ks) = let h = times_few c ks in elim (k == c) as (λ b. cond b 1 0 + times_in c ks ≤ suc (length ks)) [ true ↦ omega arith | false ↦ omega arith ]
 
@@ -127,11 +127,11 @@ form_sources_few (form.Pack c log) h = omega arith
 form_sources_few (form.Project c log index) h = omega arith
 form_sources_few (form.Linear constant terms) h = let l = length-map terms (λ (t : ShapeTerm). t.column) in omega arith
 
-sources_few : (k : ColumnKind) → KindIsSmall k → length (sources k) ≤ 64
+pub sources_few : (k : ColumnKind) → KindIsSmall k → length (sources k) ≤ 64
 sources_few Committed h = omega arith
 sources_few (Virtual f) h = form_sources_few f h
 
-claims_few : (column : ColumnShape) (j n : ℕ) (claimed : List ℕ) → ColumnIsSmall column → length claimed + 64 ≤ n → length (claims_after column j claimed) ≤ n
+pub claims_few : (column : ColumnShape) (j n : ℕ) (claimed : List ℕ) → ColumnIsSmall column → length claimed + 64 ≤ n → length (claims_after column j claimed) ≤ n
 claims_few column j n claimed h l =
     let s = sources_few column.kind h.kind in
     let a = length-append claimed (sources column.kind) in
@@ -170,7 +170,7 @@ columns_bounded rows (column ∷ before) claimed few h l =
     let c = claims_few column j (length claimed + 64) claimed h.0 (omega arith) in
     both 1000 (length before * 1000) (suc (length before) * 1000) (column_entries rows column j) (columns_entries rows before (claims_after column j claimed)) (column_bounded rows column j few h.0 (omega arith)) (columns_bounded rows before (claims_after column j claimed) few h.1 (omega arith)) (omega arith)
 
-committed_few : (cs : List ColumnShape) (claimed : List ℕ) → committed_claims cs claimed ≤ length cs
+pub committed_few : (cs : List ColumnShape) (claimed : List ℕ) → committed_claims cs claimed ≤ length cs
 committed_few [] claimed = omega arith
 committed_few (column ∷ before) claimed =
     let j = times_in (length before) claimed in
@@ -190,7 +190,7 @@ length_flat : {X : Type 0} (f : X → List ℕ) (xs : List X) → AllByRecursion
 length_flat f [] h = omega arith
 length_flat f (x ∷ xs) h = let l = length-append (f x) (flat_map f xs) in let a = h.0 in let b = length_flat f xs h.1 in omega arith
 
-first_few : (table : TableShape) → TableIsSmall table → length (first_columns table) ≤ 18432
+pub first_few : (table : TableShape) → TableIsSmall table → length (first_columns table) ≤ 18432
 first_few table h =
     let logs = tabulate 8 (λ v. v) in
     let a = length_flat named_columns table.flushes (all_with FlushIsSmall (λ flush. length (named_columns flush) ≤ 256) table.flushes (λ flush s. let n = named_few flush s in omega arith) h.flushes) in
@@ -210,7 +210,7 @@ tables_bounded rows t (table ∷ tables) few h =
     let own = columns_bounded (slice_index rows t) columns (first_columns table) (few t) (backwards_small table.columns h.0.columns) (omega arith) in
     both (length columns * 1000) (length tables * 256000) (suc (length tables) * 256000) (columns_entries (slice_index rows t) columns (first_columns table)) (table_entries rows (t + 1) tables) own (tables_bounded rows (t + 1) tables few h.1) (omega arith)
 
-claims_on_bits_few : (tables : List TableShape) → AllByRecursion TableIsSmall tables → bit_claims tables ≤ length tables * 256
+pub claims_on_bits_few : (tables : List TableShape) → AllByRecursion TableIsSmall tables → bit_claims tables ≤ length tables * 256
 claims_on_bits_few [] h = omega arith
 claims_on_bits_few (table ∷ tables) h =
     let a = committed_few (backwards table.columns) (first_columns table) in
@@ -220,7 +220,7 @@ claims_on_bits_few (table ∷ tables) h =
     omega arith
 
 -- ---- the plan
-places_few : (tables : List TableShape) (rows : List ℕ) → size_log tables rows ≤ 24 → places_log (blocks tables rows) ≤ 24
+pub places_few : (tables : List TableShape) (rows : List ℕ) → size_log tables rows ≤ 24 → places_log (blocks tables rows) ≤ 24
 places_few tables rows h = max-le (omega arith) (at_most (bits_taken (blocks tables rows)) 24 (few_bits tables rows h))
 
 pub plan_fits : (shape : ShapeParts) (rows : List ℕ) → ShapeFits shape → FewRows rows → size_log shape.tables rows ≤ 24

@@ -47,7 +47,7 @@ kind_small : (before : List ColumnShape) (column : ColumnShape) (k : ColumnKind)
 kind_small before column Committed low h = tt
 kind_small before column (Virtual f) low h = form_small before column f low h
 
-column_small : (table : TableShape) → TableFits table → (c : ℕ) (column : ColumnShape) → slice_get table.columns c ≡ Some column → ColumnIsSmall column
+pub column_small : (table : TableShape) → TableFits table → (c : ℕ) (column : ColumnShape) → slice_get table.columns c ≡ Some column → ColumnIsSmall column
 column_small table fit c column at =
     let own = fit.columns c column at in
     record {
@@ -62,7 +62,7 @@ flush_small shape table flush s h = record {
 }
 
 -- ---- tables
-table_small : (shape : ShapeParts) (t : ℕ) (table : TableShape) → ShapeFits shape → slice_get shape.tables t ≡ Some table → TableIsSmall table
+pub table_small : (shape : ShapeParts) (t : ℕ) (table : TableShape) → ShapeFits shape → slice_get shape.tables t ≡ Some table → TableIsSmall table
 table_small shape t table s at =
     let fit = s.tables t table at in
     record {

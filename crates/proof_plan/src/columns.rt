@@ -118,7 +118,7 @@ fn push_column(
 }
 
 /// How often a number is in a list.
-fn times_in(column: u32, claimed: &[u32]) -> u64
+pub fn times_in(column: u32, claimed: &[u32]) -> u64
     ensures { result ≡ times_in column claimed.now }
 {
     let mut times = 0;
@@ -153,7 +153,7 @@ fn push_sources(form: &ShapeForm, claimed: &mut Vec<u32>) -> Result<(), AllocErr
 }
 
 /// The columns that claims are on once a column with so many claims is done.
-fn claim_sources(
+pub fn claim_sources(
     column: &ColumnShape,
     claims: u64,
     claimed: &mut Vec<u32>,
@@ -170,7 +170,7 @@ fn claim_sources(
 }
 
 /// One for a committed column with a claim.
-fn committed_count(column: &ColumnShape, claims: u64) -> u64
+pub fn committed_count(column: &ColumnShape, claims: u64) -> u64
     ensures count { result ≡ cond (claims == 0) 0 (is_committed column.now.kind) }
     ensures few { result ≤ 1 }
 {
@@ -215,7 +215,7 @@ fn push_all_group_columns(table: &TableShape, claimed: &mut Vec<u32>) -> Result<
 
 /// The columns that the claims of a table's flushes and constraints are on, a column as often as
 /// there are claims on it.
-fn first_columns(alloc: Global, table: &TableShape) -> Result<Vec<u32>, AllocError>
+pub fn first_columns(alloc: Global, table: &TableShape) -> Result<Vec<u32>, AllocError>
     requires { TableIsSmall table.now }
     ensures { IfOk result (λ claimed. claimed.items ≡ first_columns table.now) }
 {

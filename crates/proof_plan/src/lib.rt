@@ -10,5 +10,6 @@ mod plan_entry;
 mod rounds;
 mod words;
 
+pub use columns::{claim_sources, committed_count, first_columns, times_in};
 pub use plan::Plan;
 pub use plan_entry::PlanEntry;
