@@ -2,5 +2,7 @@
 #![tactic(auto)]
 
 mod committed;
+mod packed;
 
 pub use committed::{Claimed, Column, claims_on, lists_of, table_of_bits};
+pub use packed::words_of;

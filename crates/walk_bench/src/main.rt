@@ -1,8 +1,8 @@
 //! Walks beside their provers, for timing. By the first word, over 2 ^ N values: three claims on a
 //! column merged (`merge`), a claim on a column shifted within blocks of 32 (`shift`), the carries
 //! of an adder of 32 bits (`zero`), the product of a flush of 2 ^ N rows (`product`), claims on three
-//! columns whose bits stand in 2 ^ N places (`bits`), or the value of the bits of 2 ^ N words turned
-//! into one of the words (`switch`). Prints the sum of the last message.
+//! columns whose bits stand in 2 ^ N places (`bits`, and `packed` from words), or the value of the bits
+//! of 2 ^ N words turned into one of the words (`switch`). Prints the sum of the last message.
 
 #![tactic(auto)]
 
@@ -12,7 +12,7 @@ ghost use Rattle.sumcheck.specs.Machine.{Filling};
 ghost use Rattle.table_shape.specs.Limits.{max_rows};
 ghost use Rattle.table_shape.specs.Placement.{places_log};
 ghost use Rattle.table_shape.specs.declared.shape.FlushShape.{FlushShape as Flush};
-ghost use Rattle.bit_claim.specs.BatchFollowing.{FollowsBatch};
+ghost use Rattle.bit_claim.specs.BatchFollowing.{FollowsBatch, IsNew};
 ghost use Rattle.bit_claim.specs.Bits.{bits, IsPlaced};
 ghost use Rattle.channel_products.specs.DescentFields.{flush_in};
 ghost use Rattle.channel_products.specs.DescentProver.{FollowsProduct};
@@ -29,7 +29,7 @@ ghost use Rattle.zerocheck.specs.Group.{Group as Constraints, group_of};
 ghost use Rattle.zerocheck.specs.ZeroProver.{FollowsZero};
 
 use bit_claim::{BitProver, BitWalk, Placement, place};
-use bit_inputs::{Claimed, claims_on, table_of_bits};
+use bit_inputs::{Claimed, claims_on, table_of_bits, words_of};
 use channel_products::{ProductProver, ProductWalk, collapse, leaf};
 use cube_mle::{eq_table, mle_at};
 use eval_reduce::{MergeProver, MergeWalk, ShiftProver, ShiftWalk};
@@ -398,12 +398,39 @@ fn bit_lists(alloc: Global, log: u32) -> Result<ColumnTables, Lack>
     Ok(tables)
 }
 
+/// The prover that has the table of bits, in words or with an element for each.
+fn bit_prover(
+    alloc: Global,
+    placement: &Placement,
+    claims: u32,
+    table: &[B128],
+    packed: bool,
+) -> Result<BitProver, Lack>
+    requires whole { length table.now ≡ 2 ^ places_log placement.now }
+    ensures new { IfOk result (λ prover. IsNew placement.now prover) }
+    ensures room { IfOk result (λ prover. prover.room ≡ claims) }
+    ensures bits { IfOk result (λ prover. prover.bits ≡ table.now) }
+{
+    if packed {
+        let words = words_of(alloc, table)?;
+        return match BitProver::begin_packed(alloc, placement, claims, words.as_slice()) {
+            Ok(prover) => Ok(prover),
+            Err(_) => Err(Lack),
+        };
+    }
+    match BitProver::begin(alloc, placement, claims, table) {
+        Ok(prover) => Ok(prover),
+        Err(_) => Err(Lack),
+    }
+}
+
 /// The walk of claims on committed columns and its prover, the claims stated.
 fn begin_bits(
     alloc: Global,
     placement: &Placement,
     table: &[B128],
     claims: &[ColumnClaim],
+    packed: bool,
 ) -> Result<(BitWalk, BitProver), Lack>
     requires whole { length table.now ≡ 2 ^ places_log placement.now }
     requires bits { (F : Filling) × (bits F placement.now ≡ table.now) }
@@ -416,9 +443,7 @@ fn begin_bits(
         return Err(Lack);
     };
     walk.enter(claims);
-    let Ok(mut prover) = BitProver::begin(alloc, placement, count, table) else {
-        return Err(Lack);
-    };
+    let mut prover = bit_prover(alloc, placement, count, table, packed)?;
     prover.enter(claims);
     Ok((walk, prover))
 }
@@ -435,8 +460,9 @@ fn claimed_at(column: u32) -> Claimed
     }
 }
 
-/// A claim on each of three columns, whose bits stand in a table of 2 ^ log places.
-fn batched(alloc: Global, log: u32) -> Result<B128, Lack>
+/// A claim on each of three columns, whose bits stand in a table of 2 ^ log places, in words or with an
+/// element for each.
+fn batched(alloc: Global, log: u32, packed: bool) -> Result<B128, Lack>
     requires { (8 ≤ log) × (log ≤ 20) }
 {
     let shape = shape_of(alloc, COMMITTED)?;
@@ -456,6 +482,7 @@ fn batched(alloc: Global, log: u32) -> Result<B128, Lack>
         &placement,
         table.as_slice(),
         claims.as_slice(),
+        packed,
     )?;
     meet_all(alloc, &mut walk, &mut prover)
 }
@@ -610,8 +637,9 @@ fn main(rt: HostRuntime) -> io::Result<()> {
         "merge" => merged(rt.alloc(), log),
         "shift" => shifted(rt.alloc(), log),
         "product" => multiplied(rt.alloc(), log),
-        "bits" if log >= 8 => batched(rt.alloc(), log),
-        "bits" => Err(Lack),
+        "bits" if log >= 8 => batched(rt.alloc(), log, false),
+        "packed" if log >= 10 => batched(rt.alloc(), log, true),
+        "bits" | "packed" => Err(Lack),
         "switch" if log <= 17 => switched(rt.alloc(), log),
         "switch" => Err(Lack),
         _ => carries(rt.alloc(), log),

@@ -1,0 +1,54 @@
+//! A table of bits in words.
+
+ghost use Rattle.std.specs.Prelude.{◌≡◌, IfOk, IsTrue};
+ghost use Rattle.tensor_laws.specs.Tensor.{bits_of_table};
+
+use reduction_inputs::{Lack, push_bits};
+use std::alloc::Global;
+use tower_field::{B128, Tower};
+
+/// The number of bits, the lowest first.
+fn word_of(bits: &[B128]) -> Option<B128> {
+    let mut number = 0u128;
+    for bit in bits.iter().rev() {
+        number = number.wrapping_mul(2) | bit.number() & 1;
+    }
+    B128::from_number(number)
+}
+
+/// Whether two lists are the same.
+fn are_equal(xs: &[B128], ys: &[B128]) -> bool
+    ensures { IsTrue result → xs.now ≡ ys.now }
+{
+    if xs.len() != ys.len() {
+        return false;
+    }
+    for i in 0..xs.len() {
+        if xs[i] != ys[i] {
+            return false;
+        }
+    }
+    true
+}
+
+/// The words of a table of bits, where it has those of whole words.
+pub fn words_of(alloc: Global, table: &[B128]) -> Result<Vec<B128>, Lack>
+    ensures { IfOk result (λ words. bits_of_table 128 words.items ≡ table.now) }
+{
+    let mut words = Vec::new(alloc);
+    for w in 0..table.len() / 128 {
+        let first = 128 * w;
+        let Some(word) = word_of(&table[first..first + 128]) else {
+            return Err(Lack);
+        };
+        if words.push(word).is_err() {
+            return Err(Lack);
+        }
+    }
+    let mut bits = Vec::new(alloc);
+    push_bits(7, words.as_slice(), &mut bits)?;
+    if !are_equal(bits.as_slice(), table) {
+        return Err(Lack);
+    }
+    Ok(words)
+}
