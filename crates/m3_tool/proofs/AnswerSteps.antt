@@ -1,6 +1,6 @@
 -- Steps towards the answer to files.
-use Rattle.std.proofs.Common.{◌≡◌, ◌≢◌, ◌≤◌, ℕ, List, length, Bool, true, false, Result, Ok, Err, refl, sym, subst, inl, inr, arith}
-use Rattle.std.specs.Prelude.{nat_lt, MatchResult}
+use Rattle.std.proofs.Common.{◌≡◌, ◌≢◌, ◌≤◌, ℕ, List, length, Bool, true, false, cond, Result, Ok, Err, refl, sym, subst, inl, inr, arith}
+use Rattle.std.specs.Prelude.{◌==◌, nat_lt, MatchResult}
 use Rattle.std.specs.Bool.{MatchBool}
 use Rattle.std.proofs.lemmas.Bool.Decides.{nat_tests}
 use Rattle.table_text.specs.declared.decl.Decl.{Decl}
@@ -9,21 +9,24 @@ use Rattle.table_text.specs.declared.fault.TextStop.{TextStop}
 use Rattle.table_text.specs.declared.fault.TextStop.TheVariants.{Fault, NoMemory}
 use Rattle.table_text.specs.Faults.{IsTablesText, IsFirstFault}
 use Rattle.m3_tool.specs.Limits.{max_tables_file, max_witness_file}
-use Rattle.m3_tool.specs.declared.status.Status.TheVariants.{Tables, TooLong}
+use Rattle.m3_tool.specs.declared.status.Status.TheVariants.{Yes, Words, Tables, TooLarge, TooLong}
 use Rattle.witness_reader.specs.declared.fault.WitnessStop.{WitnessStop}
 use Rattle.table_shape.specs.declared.fault.ShapeFault.{ShapeFault}
 use Rattle.m3_tool.specs.declared.tables.Parsed.{Parsed}
 use Rattle.m3_tool.specs.declared.tables.Parsed.TheVariants as parsed
-use Rattle.m3_tool.specs.declared.witness.Shaped.{Shaped}
-use Rattle.m3_tool.specs.declared.witness.Shaped.TheVariants as shaped
+use Rattle.m3_tool.specs.declared.shapes.Shaped.{Shaped}
+use Rattle.m3_tool.specs.declared.shapes.Shaped.TheVariants as shaped
 use Rattle.m3_tool.specs.declared.witness.Question.{Question}
 use Rattle.witness_reader.specs.Witness.{WitnessData, IsOf, filling_of}
-use Rattle.m3_tool.specs.Checking.{Answering, IsParsed, IsParsedFile, IsShapedTables, IsShapedFile}
+use Rattle.m3_tool.specs.Checking.{Answering, of_witness, of_rows, OfShape, IsParsed, IsParsedFile, IsShapedTables, IsShapedFile}
+use Rattle.table_shape.specs.Limits.{max_size_log}
 use Rattle.table_shape.specs.Parts.{ShapeParts}
+use Rattle.table_shape.specs.Size.{size_log}
 use Rattle.table_shape.specs.Filling.{Filling}
-use Rattle.m3_tool.specs.Lines.{too_long_line, shape_fault_line}
-use Rattle.m3_tool.specs.Run.{Answer, answer, ToValues, IsWitnessAnswer, IsWitnessFileAnswer, IsShapeAnswer, IsTextRefusal, IsTextAnswer, OfTablesFile, IsTablesAnswer, IsReadAnswer, IsPrinted, IsPrintAnswer, witness_refusal}
+use Rattle.m3_tool.specs.Lines.{count_text, words_line, too_large_line, too_long_line, shape_fault_line}
+use Rattle.m3_tool.specs.Run.{Answer, answer, ToShape, ToValues, IsWitnessAnswer, IsWitnessFileAnswer, IsShapeAnswer, IsTextRefusal, IsTextAnswer, OfTablesFile, IsTablesAnswer, IsResolvedAnswer, IsReadAnswer, IsPrinted, IsPrintAnswer, IsCountAnswer, count_answer, witness_refusal}
 use Rattle.m3_tool.specs.Answer.{IsReadOnce, answer_of}
+use Rattle.m3_tool.specs.declared.answer.Answer.{Answer as OwnAnswer}
 
 -- a reader that answers every text's declarations and every fault reads each text once
 pub read_once : (text : List ℕ) (r : Result (List Decl) TextStop) → r ≢ Err NoMemory
@@ -87,9 +90,22 @@ pub shaped_file : (text : List ℕ) (decls : List Decl) (s : Shaped) → IsParse
 shaped_file text decls (shaped.Shape shape) (within, once, is) found = (within, once, (decls, is, found))
 shaped_file text decls (shaped.Refused refusal) (within, once, is) (fault, found, refused) = (
   once,
-  λ question witness. within_limit text (answer_of refusal) (IsTextAnswer text (IsShapeAnswer (Answering question) witness) (answer_of refusal)) within
-      (inr (decls, is, subst (λ (r : Result ShapeParts ShapeFault). MatchResult r (λ shape. IsWitnessFileAnswer (Answering question) shape witness (answer_of refusal)) (λ fault. answer_of refusal ≡ answer Tables (shape_fault_line fault))) (sym found) refused)),
+  λ asked. within_limit text (answer_of refusal) (IsTextAnswer text (IsShapeAnswer (OfShape asked)) (answer_of refusal)) within
+      (inr (decls, is, subst (λ (r : Result ShapeParts ShapeFault). MatchResult r (λ shape. OfShape asked shape (answer_of refusal)) (λ fault. answer_of refusal ≡ answer Tables (shape_fault_line fault))) (sym found) refused)),
 )
+
+-- a file whose shape was found has the answer to its shape
+pub resolved_file : (Answers : ToShape) (text : List ℕ) (shape : ShapeParts) (a : Answer) → IsShapedFile text (shaped.Shape shape) → Answers shape a → IsResolvedAnswer Answers text a
+resolved_file Answers text shape a (within, once, (decls, is, found)) answered = within_limit text a (IsTextAnswer text (IsShapeAnswer Answers) a) within
+    (inr (decls, is, subst (λ (r : Result ShapeParts ShapeFault). MatchResult r (λ s. Answers s a) (λ fault. a ≡ answer Tables (shape_fault_line fault))) (sym found) answered))
+
+-- tables that were refused have that answer, whatever their witness is
+pub refused_witness : (text witness : List ℕ) (question : Question) (a : OwnAnswer) → IsShapedFile text (shaped.Refused a) → IsReadAnswer (Answering question) text witness (answer_of a)
+refused_witness text witness question a (once, refused) = refused (of_witness question witness)
+
+-- and whatever numbers of rows are given
+pub refused_rows : (text rows : List ℕ) (a : OwnAnswer) → IsShapedFile text (shaped.Refused a) → IsCountAnswer rows text (answer_of a)
+refused_rows text rows a (once, refused) = refused (of_rows rows)
 
 pub within_witness : (Answers : ToValues) (shape : ShapeParts) (witness : List ℕ) (a : Answer) → length witness ≤ max_witness_file → IsWitnessAnswer Answers shape witness a → IsWitnessFileAnswer Answers shape witness a
 within_witness Answers shape witness a within is =
@@ -99,3 +115,16 @@ within_witness Answers shape witness a within is =
 -- a file of tables that are printed
 pub printed_file : (text : List ℕ) (decls : List Decl) (a : Answer) → IsParsedFile text (parsed.Tables decls) → IsPrinted decls a → IsPrintAnswer text a
 printed_file text decls a (within, once, is) printed = within_limit text a (IsTextAnswer text IsPrinted a) within (inr (decls, is, printed))
+
+-- a number of rows for each table, on which the columns aren't too large
+pub sized_answer : (shape : ShapeParts) (rows : List ℕ) → length rows ≡ length shape.tables → size_log shape.tables rows ≤ max_size_log → count_answer rows shape ≡ answer Yes (count_text shape rows)
+sized_answer shape rows each sized =
+    let as_many : (length rows == length shape.tables) ≡ true = equal (length rows) (length shape.tables) each in
+    let small : nat_lt max_size_log (size_log shape.tables rows) ≡ false = within (size_log shape.tables rows) sized in
+    (λ i. cond (as_many i) (cond (small i) (answer TooLarge (too_large_line (size_log shape.tables rows))) (answer Yes (count_text shape rows))) (answer Words words_line))
+  where
+    equal : (m n : ℕ) → m ≡ n → (m == n) ≡ true
+    equal m n e = grind (arith, nat_tests)
+
+    within : (n : ℕ) → n ≤ max_size_log → nat_lt max_size_log n ≡ false
+    within n h = grind (arith, nat_tests)

@@ -1,6 +1,7 @@
 pub mod HexDigits
 pub mod WordNumbers
 pub mod LoweredText
+pub mod CountedText
 pub mod AnswerSteps
 pub mod OneAnswerDue
 pub mod Runs

@@ -16,9 +16,9 @@ use Rattle.table_shape.specs.Shape.{shape_of}
 use Rattle.table_shape.specs.Filling.{Filling}
 use Rattle.table_shape.specs.Satisfies.{Satisfies, Violation, nonzero, unequal, IsFirstViolation}
 use Rattle.witness_reader.specs.Witness.{WitnessData, witness_of, filling_of}
-use Rattle.m3_tool.specs.Command.{Command, check, print, lower, help, version}
+use Rattle.m3_tool.specs.Command.{Command, check, print, lower, count, help, version}
 use Rattle.m3_tool.specs.Lines.{too_long_line, words_line, help_text, version_line}
-use Rattle.m3_tool.specs.Run.{Answer, answer, ToValues, IsJudgement, IsLowered, IsWitnessAnswer, IsWitnessFileAnswer, IsShapeAnswer, IsTextAnswer, IsTablesAnswer, IsReadAnswer, IsPrinted, IsPrintAnswer, IsDue, witness_refusal}
+use Rattle.m3_tool.specs.Run.{Answer, answer, ToShape, ToValues, IsJudgement, IsLowered, IsWitnessAnswer, IsWitnessFileAnswer, IsCounted, IsShapeAnswer, IsTextAnswer, IsTablesAnswer, IsResolvedAnswer, IsReadAnswer, IsPrinted, IsPrintAnswer, IsCountAnswer, IsDue, witness_refusal}
 use Rattle.m3_tool.specs.Answer.{IsReadOnce, IsFileReadOnce, IsCommandReadOnce}
 
 -- values that satisfy tables violate none
@@ -58,11 +58,14 @@ witness_file_once : (Answers : ToValues) → HaveOneStatus Answers → (shape : 
 witness_file_once Answers one shape witness a b p q =
     file_once (nat_lt max_witness_file (length witness)) max_witness_file (IsWitnessAnswer Answers shape witness) a b (λ x y. witness_once Answers one shape (witness_of shape.tables witness) a b x y) p q
 
-shape_once : (Answers : ToValues) → HaveOneStatus Answers → (witness : List ℕ) (r : Result ShapeParts ShapeFault) (refusal : ShapeFault → Answer) (a b : Answer)
-    → MatchResult r (λ shape. IsWitnessFileAnswer Answers shape witness a) (λ fault. a ≡ refusal fault)
-    → MatchResult r (λ shape. IsWitnessFileAnswer Answers shape witness b) (λ fault. b ≡ refusal fault) → b.status ≡ a.status
-shape_once Answers one witness (Ok shape) refusal a b p q = witness_file_once Answers one shape witness a b p q
-shape_once Answers one witness (Err fault) refusal a b p q = ap (λ (x : Answer). x.status) (q ∙ sym p)
+-- no two answers of different statuses to the same shape
+abbrev HaveOneStatusByShape : ToShape → Type 0
+HaveOneStatusByShape Answers = (shape : ShapeParts) (a b : Answer) → Answers shape a → Answers shape b → b.status ≡ a.status
+
+shape_once : (Answers : ToShape) → HaveOneStatusByShape Answers → (r : Result ShapeParts ShapeFault) (refusal : ShapeFault → Answer) (a b : Answer)
+    → MatchResult r (λ shape. Answers shape a) (λ fault. a ≡ refusal fault) → MatchResult r (λ shape. Answers shape b) (λ fault. b ≡ refusal fault) → b.status ≡ a.status
+shape_once Answers one (Ok shape) refusal a b p q = one shape a b p q
+shape_once Answers one (Err fault) refusal a b p q = ap (λ (x : Answer). x.status) (q ∙ sym p)
 
 text_once : (text : List ℕ) (Answers : List Decl → Answer → Type 0) (a b : Answer) → ((decls : List Decl) → Answers decls a → Answers decls b → b.status ≡ a.status)
     → IsReadOnce text → IsTextAnswer text Answers a → IsTextAnswer text Answers b → b.status ≡ a.status
@@ -91,13 +94,22 @@ tables_once text Answers a b each once p q =
       | false ↦ λ e x y. let within : length text ≤ max_tables_file = grind (arith, nat_tests) in text_once text Answers a b each (once within) x y
     ] refl p q
 
+-- one status is due to tables that are resolved
+resolved_once : (Answers : ToShape) → HaveOneStatusByShape Answers → (text : List ℕ) (a b : Answer) → IsFileReadOnce text → IsResolvedAnswer Answers text a → IsResolvedAnswer Answers text b → b.status ≡ a.status
+resolved_once Answers one text a b once p q = tables_once text (IsShapeAnswer Answers) a b (λ decls x y. shape_once Answers one (shape_of decls) _ a b x y) once p q
+
 -- one status is due to tables and a witness
 read_once : (Answers : ToValues) → HaveOneStatus Answers → (text witness : List ℕ) (a b : Answer) → IsFileReadOnce text → IsReadAnswer Answers text witness a → IsReadAnswer Answers text witness b → b.status ≡ a.status
-read_once Answers one text witness a b once p q = tables_once text (IsShapeAnswer Answers witness) a b (λ decls x y. shape_once Answers one witness (shape_of decls) _ a b x y) once p q
+read_once Answers one text witness a b once p q =
+    resolved_once (λ shape x. IsWitnessFileAnswer Answers shape witness x) (λ shape x y. witness_file_once Answers one shape witness x y) text a b once p q
 
 -- one status is due to a print
 print_once : (text : List ℕ) (a b : Answer) → IsFileReadOnce text → IsPrintAnswer text a → IsPrintAnswer text b → b.status ≡ a.status
 print_once text a b once p q = tables_once text IsPrinted a b (λ decls x y. same_status _ _ _ a b x y) once p q
+
+-- one status is due to a count
+count_once : (rows text : List ℕ) (a b : Answer) → IsFileReadOnce text → IsCountAnswer rows text a → IsCountAnswer rows text b → b.status ≡ a.status
+count_once rows text a b once p q = resolved_once (IsCounted rows) (λ shape x y is also. ap (λ (z : Answer). z.status) (also ∙ sym is)) text a b once p q
 
 -- one status is due to a command
 pub due_once : (c : Option Command) (shelf : ShelfState) (a b : Answer) → IsCommandReadOnce c shelf → IsDue c shelf a → IsDue c shelf b → b.status ≡ a.status
@@ -105,5 +117,6 @@ due_once None shelf a b once p q = same_status Words words_line words_line a b p
 due_once (Some (check tables witness)) shelf a b once p q = read_once IsJudgement judged_once (bytes_of shelf tables) (bytes_of shelf witness) a b once p q
 due_once (Some (print tables)) shelf a b once p q = print_once (bytes_of shelf tables) a b once p q
 due_once (Some (lower tables witness alpha gamma)) shelf a b once p q = read_once (IsLowered alpha gamma) (lowered_once alpha gamma) (bytes_of shelf tables) (bytes_of shelf witness) a b once p q
+due_once (Some (count tables rows)) shelf a b once p q = count_once rows (bytes_of shelf tables) a b once p q
 due_once (Some help) shelf a b once p q = same_status Yes help_text help_text a b p q
 due_once (Some version) shelf a b once p q = same_status Yes version_line version_line a b p q

@@ -1,45 +1,72 @@
 -- What the answer to words says of a run.
 use Rattle.std.proofs.Common.{◌≡◌, ◌≢◌, ℕ, List, true, false, Option, Some, None, Result, Ok, Err, refl, sym, ◌∙◌, ap, subst, arith, inl, inr}
-use Rattle.std.specs.Prelude.{IsTrue, IfOk, OnOk}
-use Rattle.byte_ends.specs.Shelf.{ShelfState, bytes_of, SameFaults, ReadsOnly}
+use Rattle.std.specs.Prelude.{◌⊎◌, IsTrue, IfOk, IsSome, OnOk}
+use Rattle.std.specs.Option.{option_map}
+use Rattle.byte_ends.specs.Shelf.{ShelfState, bytes_of, ReadFailed, SameFaults, ReadsOnly}
 use Rattle.table_text.specs.Canonical.{canonical}
 use Rattle.m3_tool.specs.declared.status.Status.{Status}
 use Rattle.m3_tool.specs.declared.status.Status.TheVariants.{Yes, No, Words, Tables, Witness, ReadFault, WriteFault, TooLarge, NoMemory, TooLong}
 use Rattle.m3_tool.specs.declared.tables.Stop.{Stop}
 use Rattle.m3_tool.specs.declared.tables.Stop.TheVariants as ended
 use Rattle.m3_tool.specs.declared.answer.Answer.{Answer as OwnAnswer}
-use Rattle.m3_tool.specs.Command.{Command, check, print, lower}
-use Rattle.m3_tool.specs.Checking.{EndsCheck, OnReadFault, UnlessReadFault}
-use Rattle.m3_tool.specs.Run.{Answer, answer, HasWitness, IsDue, ReadsFailed, fileless_answer, is_outside}
-use Rattle.m3_tool.specs.Lines.{satisfied_line}
+use Rattle.m3_tool.specs.Command.{Command, lower, count}
+use Rattle.m3_tool.specs.Checking.{EndsCheck, EndsCount, OnReadFault, UnlessReadFault}
+use Rattle.m3_tool.specs.Run.{Answer, answer, HasWitness, IsCountAnswer, IsDue, IsNoneOrCount, ReadsFailed, fileless_answer, is_outside}
+use Rattle.m3_tool.specs.Lines.{satisfied_line, count_text}
 use Rattle.m3_tool.specs.Headline.{EndsWith, MayPut, SaysWhether}
-use Rattle.m3_tool.specs.Answer.{IsCommandReadOnce, IsAnswered, Stops, answer_of}
+use Rattle.m3_tool.specs.Answer.{IsFileReadOnce, IsCommandReadOnce, IsAnswered, Stops, answer_of}
 use Rattle.m3_tool.proofs.OneAnswerDue.{due_once}
-use Rattle.m3_tool.proofs.Verdicts.{satisfied_due, violated_due, print_due, lowered_due}
+use Rattle.m3_tool.proofs.Verdicts.{satisfied_due, violated_due, print_due, lowered_due, counted_due}
 
-not_words : (s : Status) → EndsCheck s → s ≡ Words → ⊥
-not_words s ends is = subst EndsCheck is ends
+-- a status that a command ends with by the bytes of its files: that of words only where it is a count
+abbrev pub EndsSo : Option Command → Status → Type 0
+EndsSo c s = EndsCheck s ⊎ ((s ≡ Words) × IsNoneOrCount c)
 
-not_reading : (s : Status) → EndsCheck s → s ≡ ReadFault → ⊥
-not_reading s ends is = subst EndsCheck is ends
+pub ends_check : (c : Option Command) (r : Result OwnAnswer Stop) → IfOk r (λ x. EndsCheck x.status) → IfOk r (λ x. EndsSo c x.status)
+ends_check c (Ok x) ends = inl ends
+ends_check c (Err s) ends = ends
 
-not_writing : (s : Status) → EndsCheck s → s ≡ WriteFault → ⊥
-not_writing s ends is = subst EndsCheck is ends
+pub ends_count : (tables rows : List ℕ) (r : Result OwnAnswer Stop) → IfOk r (λ x. EndsCount x.status) → IfOk r (λ x. EndsSo (Some (count tables rows)) x.status)
+ends_count tables rows (Ok x) (inl ends) = inl ends
+ends_count tables rows (Ok x) (inr is) = inr (is, inr (tables, rows, refl))
+ends_count tables rows (Err s) ends = ends
 
-not_memory : (s : Status) → EndsCheck s → s ≡ NoMemory → ⊥
-not_memory s ends is = subst EndsCheck is ends
+ends_words : (c : Option Command) (s : Status) → EndsSo c s → s ≡ Words → IsNoneOrCount c
+ends_words c s (inl ends) is = absurd (subst EndsCheck is ends)
+ends_words c s (inr (words, fits)) is = fits
+
+not_reading : (c : Option Command) (s : Status) → EndsSo c s → s ≡ ReadFault → ⊥
+not_reading c s (inl ends) is = subst EndsCheck is ends
+not_reading c s (inr (words, fits)) is = apart (sym words ∙ is)
+  where
+    apart : Words ≡ ReadFault → ⊥
+    apart e = cc
+
+not_writing : (c : Option Command) (s : Status) → EndsSo c s → s ≡ WriteFault → ⊥
+not_writing c s (inl ends) is = subst EndsCheck is ends
+not_writing c s (inr (words, fits)) is = apart (sym words ∙ is)
+  where
+    apart : Words ≡ WriteFault → ⊥
+    apart e = cc
+
+not_memory : (c : Option Command) (s : Status) → EndsSo c s → s ≡ NoMemory → ⊥
+not_memory c s (inl ends) is = subst EndsCheck is ends
+not_memory c s (inr (words, fits)) is = apart (sym words ∙ is)
+  where
+    apart : Words ≡ NoMemory → ⊥
+    apart e = cc
 
 -- a command that ends by the bytes of its files
 pub answered : (c d : Option Command) (old new : ShelfState) (a : Answer) → c ≡ d → d ≢ None → fileless_answer d ≡ None
-    → (IsTrue old.told → IsDue d old a) → (IsTrue old.told → IsCommandReadOnce d old) → EndsCheck a.status → SameFaults old new → ReadsOnly old new → IsAnswered c old new a
+    → (IsTrue old.told → IsDue d old a) → (IsTrue old.told → IsCommandReadOnce d old) → EndsSo d a.status → SameFaults old new → ReadsOnly old new → IsAnswered c old new a
 answered c d old new a is fits files due once ends quiet reads_only = subst (λ (e : Option Command). IsAnswered e old new a) (sym is) (record {
   due = λ told inside. due told;
   once = λ told inside. once told;
   fileless = λ b e. absurd (none_some (sym files ∙ e));
-  fits = λ s. absurd (not_words a.status ends s);
-  read_fault = λ s. absurd (not_reading a.status ends s);
-  no_memory = λ s. absurd (not_memory a.status ends s);
-  no_write = λ s. not_writing a.status ends s;
+  fits = λ s. ends_words d a.status ends s;
+  read_fault = λ s. absurd (not_reading d a.status ends s);
+  no_memory = λ s. absurd (not_memory d a.status ends s);
+  no_write = λ s. not_writing d a.status ends s;
   quiet = λ _. quiet;
   reads_only = reads_only;
 })
@@ -105,7 +132,7 @@ stopped c d old new ended.NoMemory a is fits files stops failed quiet reads_only
 
 -- what a command answered, or what stopped it
 pub concluded : (c d : Option Command) (old new : ShelfState) (r : Result OwnAnswer Stop) (a : Answer) → c ≡ d → d ≢ None → fileless_answer d ≡ None → Stops r a
-    → (IsTrue old.told → IfOk r (λ x. IsDue d old (answer_of x))) → (IsTrue old.told → OnOk r (IsCommandReadOnce d old)) → IfOk r (λ x. EndsCheck x.status)
+    → (IsTrue old.told → IfOk r (λ x. IsDue d old (answer_of x))) → (IsTrue old.told → OnOk r (IsCommandReadOnce d old)) → IfOk r (λ x. EndsSo d x.status)
     → OnReadFault r (ReadsFailed d old new) → UnlessReadFault r (SameFaults old new) → ReadsOnly old new → IsAnswered c old new a
 concluded c d old new (Ok x) a is fits files stops due once ends failed quiet reads_only =
     subst (IsAnswered c old new) (sym stops) (answered c d old new (answer_of x) is fits files due once ends quiet reads_only)
@@ -116,6 +143,19 @@ concluded c d old new (Err ended.NoMemory) a is fits files stops due once ends f
   where
     apart : ended.NoMemory ≡ ended.ReadFault → ⊥
     apart e = cc
+
+at_rows : (rows : List ℕ) (counts : Option (List ℕ)) (text : List ℕ) (r : Result OwnAnswer Stop) → counts ≡ Some rows → IfOk r (λ x. (ns : List ℕ) → counts ≡ Some ns → IsCountAnswer ns text (answer_of x))
+    → IfOk r (λ x. IsCountAnswer rows text (answer_of x))
+at_rows rows counts text (Ok x) is due = due rows is
+at_rows rows counts text (Err s) is due = due
+
+-- what a count of words that spell numbers of rows answered, or what stopped it
+pub count_concluded : (c : Option Command) (tables : List ℕ) (counts : Option (List ℕ)) (old new : ShelfState) (r : Result OwnAnswer Stop) (a : Answer) → c ≡ option_map (count tables) counts → IsSome counts → Stops r a
+    → (IsTrue old.told → IfOk r (λ x. (rows : List ℕ) → counts ≡ Some rows → IsCountAnswer rows (bytes_of old tables) (answer_of x))) → (IsTrue old.told → OnOk r (IsFileReadOnce (bytes_of old tables))) → IfOk r (λ x. EndsCount x.status)
+    → OnReadFault r (ReadFailed old new tables) → UnlessReadFault r (SameFaults old new) → ReadsOnly old new → IsAnswered c old new a
+count_concluded c tables None old new r a is some stops due once ends failed quiet reads_only = absurd cc
+count_concluded c tables (Some rows) old new r a is some stops due once ends failed quiet reads_only =
+    concluded c (Some (count tables rows)) old new r a is (λ e. cc) refl stops (λ told. at_rows rows (Some rows) (bytes_of old tables) r refl (due told)) once (ends_count tables rows r ends) failed quiet reads_only
 
 pub no_fault : (shelf : ShelfState) → SameFaults shelf shelf
 no_fault shelf = record {
@@ -203,4 +243,6 @@ says_whether c old new a is = record {
   printed = λ tables e told has. ends_with c old new a (answer Yes (canonical has.decls)) is told (subst (λ (d : Option Command). IsDue d old (answer Yes (canonical has.decls))) (sym e) (print_due (bytes_of old tables) has));
   no = λ tables witness line e told v. ends_with c old new a (answer No line) is told (subst (λ (d : Option Command). IsDue d old (answer No line)) (sym e) (violated_due (bytes_of old tables) (bytes_of old witness) line v));
   lowered = λ tables witness alpha gamma e told has. ends_lowered c tables witness alpha gamma old new a is e told has;
+  counted = λ tables rows e told has. ends_with c old new a (answer Yes (count_text has.shape.parts rows)) is told
+      (subst (λ (d : Option Command). IsDue d old (answer Yes (count_text has.shape.parts rows))) (sym e) (counted_due (bytes_of old tables) rows has));
 }

@@ -10,10 +10,10 @@ use Rattle.m3_tool.specs.declared.answer.Text.TheVariants.{Fixed, Made}
 use Rattle.m3_tool.specs.declared.answer.Answer.{Answer as OwnAnswer}
 use Rattle.m3_tool.specs.declared.tables.Stop.{Stop}
 use Rattle.m3_tool.specs.declared.tables.Stop.TheVariants as stop
-use Rattle.m3_tool.specs.Run.{Answer, answer, IsDue, ReadsFailed, fileless_answer, is_outside}
+use Rattle.m3_tool.specs.Run.{Answer, answer, IsDue, IsNoneOrCount, ReadsFailed, fileless_answer, is_outside}
 use Rattle.byte_ends.specs.Shelf.{ShelfState, bytes_of, SameFaults, ReadsOnly}
 use Rattle.m3_tool.specs.declared.status.Status.TheVariants.{Words, ReadFault, WriteFault, NoMemory}
-use Rattle.m3_tool.specs.Command.{Command, check, print, lower, help, version}
+use Rattle.m3_tool.specs.Command.{Command, check, print, lower, count, help, version}
 use Rattle.m3_tool.specs.Lines.{read_fault_line, no_memory_line}
 
 abbrev pub line_of : Text → List ℕ
@@ -45,6 +45,7 @@ IsCommandReadOnce None shelf = Unit {0}
 IsCommandReadOnce (Some (check tables witness)) shelf = IsFileReadOnce (bytes_of shelf tables)
 IsCommandReadOnce (Some (print tables)) shelf = IsFileReadOnce (bytes_of shelf tables)
 IsCommandReadOnce (Some (lower tables witness alpha gamma)) shelf = IsFileReadOnce (bytes_of shelf tables)
+IsCommandReadOnce (Some (count tables rows)) shelf = IsFileReadOnce (bytes_of shelf tables)
 IsCommandReadOnce (Some help) shelf = Unit {0}
 IsCommandReadOnce (Some version) shelf = Unit {0}
 
@@ -53,7 +54,7 @@ pub record IsAnswered (c : Option Command) (old new : ShelfState) (a : Answer) :
   pub due : IsTrue old.told → is_outside a.status ≡ false → IsDue c old a
   pub once : IsTrue old.told → is_outside a.status ≡ false → IsCommandReadOnce c old
   pub fileless : (b : Answer) → fileless_answer c ≡ Some b → a ≡ b
-  pub fits : a.status ≡ Words → c ≡ None
+  pub fits : a.status ≡ Words → IsNoneOrCount c
   pub read_fault : a.status ≡ ReadFault → ReadsFailed c old new × (a.line ≡ read_fault_line)
   pub no_memory : a.status ≡ NoMemory → a.line ≡ no_memory_line
   pub no_write : a.status ≢ WriteFault

@@ -1,19 +1,19 @@
--- What the steps of a check and of a lower say.
+-- What the steps of a check, of a lower and of a count say.
 -- Source: docs/ARCHITECTURE.md, "Within m3_tool".
-use Rattle.std.specs.Prelude.{◌≡◌, ◌≤◌, ℕ, List, length, Result, Ok, Err}
+use Rattle.std.specs.Prelude.{◌≡◌, ◌≤◌, ℕ, ◌⊎◌, List, length, Result, Ok, Err}
 use Rattle.table_text.specs.declared.decl.Decl.{Decl}
 use Rattle.table_text.specs.Faults.{IsTablesText}
 use Rattle.m3_tool.specs.Limits.{max_tables_file}
 use Rattle.m3_tool.specs.declared.tables.Parsed.{Parsed}
 use Rattle.m3_tool.specs.declared.tables.Parsed.TheVariants as parsed
-use Rattle.m3_tool.specs.declared.witness.Shaped.{Shaped}
-use Rattle.m3_tool.specs.declared.witness.Shaped.TheVariants as shaped
+use Rattle.m3_tool.specs.declared.shapes.Shaped.{Shaped}
+use Rattle.m3_tool.specs.declared.shapes.Shaped.TheVariants as shaped
 use Rattle.m3_tool.specs.declared.witness.Question.{Question}
 use Rattle.m3_tool.specs.declared.witness.Question.TheVariants.{Satisfied, Lowered}
 use Rattle.m3_tool.specs.declared.status.Status.{Status}
 use Rattle.m3_tool.specs.declared.status.Status.TheVariants.{Yes, No, Words, Tables, Witness, ReadFault, WriteFault, TooLarge, NoMemory, TooLong}
 use Rattle.table_shape.specs.Shape.{shape_of}
-use Rattle.m3_tool.specs.Run.{answer, ToValues, IsJudgement, IsLowered, IsTextRefusal, OfTablesFile, IsReadAnswer}
+use Rattle.m3_tool.specs.Run.{answer, ToShape, ToValues, IsJudgement, IsLowered, IsWitnessFileAnswer, IsCounted, IsTextRefusal, OfTablesFile, IsResolvedAnswer}
 use Rattle.m3_tool.specs.Lines.{shape_fault_line}
 use Rattle.table_shape.specs.declared.fault.ShapeFault.{ShapeFault}
 use Rattle.m3_tool.specs.declared.tables.Stop.{Stop}
@@ -24,6 +24,16 @@ use Rattle.m3_tool.specs.Answer.{answer_of, IsFileReadOnce}
 abbrev pub Answering : Question → ToValues
 Answering Satisfied = IsJudgement
 Answering (Lowered alpha gamma) = IsLowered alpha gamma
+
+-- what is asked of a shape: a question to the witness in a file, or the counts at numbers of rows
+pub data Asked : Type 0 where
+  of_witness : Question → List ℕ → Asked
+  of_rows : List ℕ → Asked
+
+-- what answers it
+abbrev pub OfShape : Asked → ToShape
+OfShape (of_witness question witness) shape a = IsWitnessFileAnswer (Answering question) shape witness a
+OfShape (of_rows rows) shape a = IsCounted rows shape a
 
 -- the declarations of a text, or the answer to a text that has none
 abbrev pub IsParsed : List ℕ → Parsed → Type 0
@@ -40,10 +50,10 @@ abbrev pub IsShapedTables : List Decl → Shaped → Type 0
 IsShapedTables decls (shaped.Shape shape) = shape_of decls ≡ Ok shape
 IsShapedTables decls (shaped.Refused a) = (fault : ShapeFault) × (shape_of decls ≡ Err fault) × (answer_of a ≡ answer Tables (shape_fault_line fault))
 
--- the shape of a file, or the answer to a file that has none, whatever the witness is and whatever is asked of it
+-- the shape of a file, or the answer to a file that has none, whatever is asked of a shape
 abbrev pub IsShapedFile : List ℕ → Shaped → Type 0
 IsShapedFile text (shaped.Shape shape) = (length text ≤ max_tables_file) × IsFileReadOnce text × ((decls : List Decl) × IsTablesText text decls × (shape_of decls ≡ Ok shape))
-IsShapedFile text (shaped.Refused a) = IsFileReadOnce text × ((question : Question) (witness : List ℕ) → IsReadAnswer (Answering question) text witness (answer_of a))
+IsShapedFile text (shaped.Refused a) = IsFileReadOnce text × ((asked : Asked) → IsResolvedAnswer (OfShape asked) text (answer_of a))
 
 abbrev pub OnReadFault : {X : Type 0} → Result X Stop → Type 0 → Type 0
 OnReadFault (Ok x) P = Unit {0}
@@ -67,6 +77,10 @@ EndsCheck Words = ⊥
 EndsCheck ReadFault = ⊥
 EndsCheck WriteFault = ⊥
 EndsCheck NoMemory = ⊥
+
+-- the same of a count, which may have another number of rows than there are tables
+abbrev pub EndsCount : Status → Type 0
+EndsCount s = EndsCheck s ⊎ (s ≡ Words)
 
 abbrev pub RefusalEnds : Parsed → Type 0
 RefusalEnds (parsed.Tables decls) = Unit {0}

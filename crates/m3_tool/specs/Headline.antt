@@ -12,9 +12,9 @@ use Rattle.table_text.specs.Faults.{IsTablesText}
 use Rattle.table_shape.specs.Lowering.{LoweredHolds}
 use Rattle.table_shape.specs.Satisfies.{Satisfies}
 use Rattle.witness_reader.specs.Witness.{filling_of}
-use Rattle.m3_tool.specs.Command.{Command, check, print, lower}
-use Rattle.m3_tool.specs.Lines.{satisfied_line, lowered_text, read_fault_line, no_memory_line}
-use Rattle.m3_tool.specs.Run.{Answer, HasDecls, HasWitness, IsDue, IsSatisfied, IsViolated, ReadsFailed, fileless_answer, is_outside}
+use Rattle.m3_tool.specs.Command.{Command, check, print, lower, count}
+use Rattle.m3_tool.specs.Lines.{satisfied_line, lowered_text, count_text, read_fault_line, no_memory_line}
+use Rattle.m3_tool.specs.Run.{Answer, HasCounts, HasDecls, HasWitness, IsDue, IsSatisfied, IsViolated, ReadsFailed, fileless_answer, is_outside}
 
 -- the answer that is due has this status, and its line was put
 pub record PutsDue (c : Option Command) (shelf : ShelfState) (old new : SinkState) (status : Status) : Type 0 where
@@ -55,6 +55,11 @@ abbrev pub SaysLowered : Option Command → ShelfState → SinkState → SinkSta
 SaysLowered c shelf old new status =
     (tables witness : List ℕ) (alpha gamma : ℕ) → c ≡ Some (lower tables witness alpha gamma) → IsTrue shelf.told → status ≡ Yes → PutsLowered (bytes_of shelf tables) (bytes_of shelf witness) alpha gamma old new
 
+-- a count that says Yes has read tables, one for each number of rows, whose columns aren't too large, and puts the counted draws of a proof for them and its length
+abbrev pub SaysCounted : Option Command → ShelfState → SinkState → SinkState → Status → Type 0
+SaysCounted c shelf old new status =
+    (tables rows : List ℕ) → c ≡ Some (count tables rows) → IsTrue shelf.told → status ≡ Yes → (has : HasCounts (bytes_of shelf tables) rows) × Puts old new (count_text has.shape.parts rows)
+
 -- words that name no file have their answer, whatever the shelf tells, unless a write fails
 abbrev pub AnswersWords : Option Command → SinkState → SinkState → Status → Type 0
 AnswersWords c old new status = (a : Answer) → fileless_answer c ≡ Some a → ((status ≡ a.status) × Puts old new a.line) ⊎ ((status ≡ WriteFault) × Rose old.faults new.faults)
@@ -63,12 +68,13 @@ AnswersWords c old new status = (a : Answer) → fileless_answer c ≡ Some a �
 abbrev pub EndsWith : Status → Status → Type 0
 EndsWith expected status = (status ≡ expected) ⊎ IsTrue (is_outside status)
 
--- a check whose files are accepted says whether the witness satisfies the tables, and a print or a lower of accepted files says Yes, unless the outside ends the run
+-- a check whose files are accepted says whether the witness satisfies the tables, and a print, a lower or a count of accepted files says Yes, unless the outside ends the run
 pub record SaysWhether (c : Option Command) (shelf : ShelfState) (status : Status) : Type 0 where
   pub yes : (tables witness : List ℕ) → c ≡ Some (check tables witness) → IsTrue shelf.told → IsSatisfied (bytes_of shelf tables) (bytes_of shelf witness) → EndsWith Yes status
   pub no : (tables witness line : List ℕ) → c ≡ Some (check tables witness) → IsTrue shelf.told → IsViolated (bytes_of shelf tables) (bytes_of shelf witness) line → EndsWith No status
   pub printed : (tables : List ℕ) → c ≡ Some (print tables) → IsTrue shelf.told → HasDecls (bytes_of shelf tables) → EndsWith Yes status
   pub lowered : (tables witness : List ℕ) (alpha gamma : ℕ) → c ≡ Some (lower tables witness alpha gamma) → IsTrue shelf.told → HasWitness (bytes_of shelf tables) (bytes_of shelf witness) → EndsWith Yes status
+  pub counted : (tables rows : List ℕ) → c ≡ Some (count tables rows) → IsTrue shelf.told → HasCounts (bytes_of shelf tables) rows → EndsWith Yes status
 
 -- where no count of faults rose, the outside ends a run by want of memory alone
 abbrev pub IsUndisturbed : ShelfState → ShelfState → SinkState → SinkState → Status → Type 0

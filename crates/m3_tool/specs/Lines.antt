@@ -1,6 +1,6 @@
 -- The lines that are printed.
 -- Source: docs/FORMATS.md, "What is printed".
-use Rattle.std.specs.Prelude.{ℕ, ◌+◌, Bool, false, true, List, [], ◌∷◌, ◌++◌, map, codes}
+use Rattle.std.specs.Prelude.{ℕ, ◌+◌, Bool, false, true, List, [], ◌∷◌, ◌++◌, length, map, codes}
 use Rattle.std.specs.Fmt.{decimal, digits}
 use Rattle.table_text.specs.Canonical.{joined}
 use Rattle.table_text.specs.declared.decl.Side.TheVariants.{Push, Pull}
@@ -22,6 +22,13 @@ use Rattle.table_shape.specs.Parts.{ShapeParts}
 use Rattle.table_shape.specs.Filling.{Filling}
 use Rattle.table_shape.specs.Lowering.{side_product}
 use Rattle.table_shape.specs.Satisfies.{NonZero, Unequal, Violation, nonzero, unequal, IsFirstViolation}
+use Rattle.poly_forms.specs.declared.draw_kind.DrawKind.{DrawKind}
+use Rattle.poly_forms.specs.Names.{draw_name}
+use Rattle.proof_plan.specs.declared.plan_entry.PlanEntry.{PlanEntry}
+use Rattle.proof_plan.specs.declared.plan_entry.PlanEntry.TheVariants.{Root, Message, Draw, Constant, Queries}
+use Rattle.proof_plan.specs.Plan.{packed_log, plan}
+use Rattle.proof_plan.specs.PlanParts.{PlanParts}
+use Rattle.proof_plan.specs.Sizes.{proof_length, total}
 
 -- a number in hexadecimal digits
 abbrev pub hex : ℕ → List ℕ
@@ -70,6 +77,33 @@ holds_line false = codes "fails\n"
 
 abbrev pub lowered_text : ShapeParts → List ℕ → Filling → ℕ → ℕ → Bool → List ℕ
 lowered_text shape rows filling a g holds = channel_lines shape rows filling a g 0 shape.channels ++ holds_line holds
+
+-- the line of a counted draw, which is entry e of the plan
+abbrev pub draw_line : ℕ → DrawKind → ℕ → List ℕ
+draw_line e kind n = codes "draw " ++ decimal e ++ codes " " ++ draw_name kind ++ codes " at most " ++ decimal n ++ codes "\n"
+
+abbrev pub entry_line : ℕ → PlanEntry → List ℕ
+entry_line e Root = []
+entry_line e (Message check n) = []
+entry_line e (Draw kind n) = draw_line e kind n
+entry_line e Constant = []
+entry_line e Queries = []
+
+-- the lines of the counted draws among the entries numbered from e on
+abbrev pub draw_lines : ℕ → List PlanEntry → List ℕ
+draw_lines e [] = []
+draw_lines e (entry ∷ entries) = entry_line e entry ++ draw_lines (e + 1) entries
+
+abbrev pub number_line : List ℕ → ℕ → List ℕ
+number_line word n = word ++ codes " " ++ decimal n ++ codes "\n"
+
+-- the counted draws, the sum of their counts, and how many bytes the proof has
+abbrev pub plan_text : PlanParts → List ℕ
+plan_text p = draw_lines 0 p.entries ++ number_line (codes "total") (total p.entries) ++ number_line (codes "bytes") (proof_length p.tables p.packed_log p.entries)
+
+-- those of a proof for tables on so many rows each
+unfoldable pub count_text : ShapeParts → List ℕ → List ℕ
+count_text shape rows = plan_text (record { entries = plan shape rows; tables = length shape.tables; packed_log = packed_log shape rows })
 
 abbrev pub text_kind_name : TextKind → List ℕ
 text_kind_name text.NotText = codes "NotText"
@@ -140,6 +174,6 @@ version_line = codes "bm3 0.1.0\n"
 
 unfoldable pub help_text : List ℕ
 help_text =
-    codes "bm3 check TABLES WITNESS\n    Says whether a witness satisfies tables. Reads both files and writes none.\n" ++ codes "bm3 print TABLES\n    Prints the canonical text of tables. Reads the file and writes none.\n" ++ codes "bm3 lower TABLES WITNESS ALPHA GAMMA\n    Prints the products of each channel at two numbers. Reads both files and writes none.\n" ++ codes "bm3 --help\n    Prints this text.\n" ++ codes "bm3 --version\n    Prints the version.\n"
-    ++ codes "Statuses:\n    0   satisfied, or the text or the products were printed\n    1   the witness violates the tables\n    2   the words fit no command\n    3   the text of the tables or their shape is refused\n    4   the witness is refused\n"
+    codes "bm3 check TABLES WITNESS\n    Says whether a witness satisfies tables. Reads both files and writes none.\n" ++ codes "bm3 print TABLES\n    Prints the canonical text of tables. Reads the file and writes none.\n" ++ codes "bm3 lower TABLES WITNESS ALPHA GAMMA\n    Prints the products of each channel at two numbers. Reads both files and writes none.\n" ++ codes "bm3 count TABLES ROWS..\n    Prints the draws of a proof that are counted, and the proof's length. Reads the file and writes none.\n" ++ codes "bm3 --help\n    Prints this text.\n" ++ codes "bm3 --version\n    Prints the version.\n"
+    ++ codes "Statuses:\n    0   satisfied, or what was asked for was printed\n    1   the witness violates the tables\n    2   the words fit no command, or count has another number of rows\n    3   the text of the tables or their shape is refused\n    4   the witness is refused\n"
     ++ codes "    6   a read failed\n    7   a write failed\n    8   the columns take too many bits\n    9   out of memory\n    10  a file is too long\n"

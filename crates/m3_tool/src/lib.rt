@@ -3,12 +3,14 @@
 
 mod answer;
 mod check;
+mod count;
 pub mod limits;
 mod lines;
 mod lower;
 mod number;
 mod print;
 mod running;
+mod shapes;
 mod status;
 mod tables;
 mod witness;

@@ -7,10 +7,12 @@ ghost use Rattle.table_shape.specs.Filling.{Filling};
 ghost use Rattle.table_shape.specs.Satisfies.{IsFirstViolation};
 ghost use Rattle.m3_judge.specs.Judging.{violation_of};
 ghost use Rattle.oracle_lowering.specs.Products.{ArePairs};
-ghost use Rattle.m3_tool.specs.Lines.{channel_line, hex, holds_line, lowered_text, nonzero_line, unequal_line, value_text, place_name, shape_fault_line, shape_kind_name, text_fault_line, text_kind_name, too_large_line, too_long_line, violated, violation_line, witness_fault_line, witness_kind_name};
+ghost use Rattle.m3_tool.specs.Lines.{channel_line, draw_line, entry_line, hex, holds_line, lowered_text, nonzero_line, number_line, plan_text, unequal_line, value_text, place_name, shape_fault_line, shape_kind_name, text_fault_line, text_kind_name, too_large_line, too_long_line, violated, violation_line, witness_fault_line, witness_kind_name};
 
 use m3_judge::Violation;
 use oracle_lowering::{Pair, Products};
+use poly_forms::DrawKind;
+use proof_plan::{Plan, PlanEntry};
 use std::alloc::{AllocError, Global};
 use table_shape::{ChannelShape, ConstraintShape, Shape, ShapeFault, ShapeKind, TableShape};
 use table_text::{TextFault, TextKind};
@@ -229,6 +231,64 @@ pub fn lowered_text(
         push_channel(alloc, &mut text, &channels[c], pairs[c])?;
     }
     push(&mut text, holds_line(products.holds).as_bytes())?;
+    Ok(text)
+}
+
+/// The line of a counted draw, which is the entry of this number.
+fn push_draw(
+    alloc: Global,
+    text: &mut Vec<u8>,
+    number: u32,
+    kind: DrawKind,
+    count: u64,
+) -> Result<(), AllocError>
+    ensures { OnOk result (text.new.items ≡ text.old.items ++ draw_line number kind count) }
+{
+    push(text, b"draw ")?;
+    push_decimal(alloc, text, number.into())?;
+    push(text, b" ")?;
+    push(text, kind.name().as_bytes())?;
+    push(text, b" at most ")?;
+    push_decimal(alloc, text, count)?;
+    push(text, b"\n")
+}
+
+/// Appends the line of a draw, and nothing for another entry.
+fn push_entry(
+    alloc: Global,
+    text: &mut Vec<u8>,
+    number: u32,
+    entry: PlanEntry,
+) -> Result<(), AllocError>
+    ensures { OnOk result (text.new.items ≡ text.old.items ++ entry_line number entry) }
+{
+    match entry {
+        PlanEntry::Draw { kind, count } => push_draw(alloc, text, number, kind, count),
+        _ => Ok(()),
+    }
+}
+
+/// Appends a word and a number, as one line.
+fn push_number(alloc: Global, text: &mut Vec<u8>, word: &str, n: u64) -> Result<(), AllocError>
+    ensures { OnOk result (text.new.items ≡ text.old.items ++ number_line word.now n) }
+{
+    push(text, word.as_bytes())?;
+    push(text, b" ")?;
+    push_decimal(alloc, text, n)?;
+    push(text, b"\n")
+}
+
+/// The lines of a plan: each counted draw, the sum of their counts, and how many bytes the proof
+/// has.
+pub fn plan_text(alloc: Global, plan: &Plan) -> Result<Vec<u8>, AllocError>
+    ensures { IfOk result (λ text. text.items ≡ plan_text plan.now) }
+{
+    let mut text = Vec::new(alloc);
+    for number in 0..plan.len() {
+        push_entry(alloc, &mut text, number, plan.entry(number))?;
+    }
+    push_number(alloc, &mut text, "total", plan.total())?;
+    push_number(alloc, &mut text, "bytes", plan.byte_length())?;
     Ok(text)
 }
 

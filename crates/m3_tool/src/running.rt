@@ -1,16 +1,17 @@
 //! The whole program, over any shelf and any sink.
 
-ghost use Rattle.std.specs.Prelude.{◌≡◌, ◌≢◌, false, map, string_bytes, IsTrue, None};
+ghost use Rattle.std.specs.Prelude.{◌≡◌, ◌≢◌, false, map, string_bytes, IsTrue};
 ghost use Rattle.byte_ends.specs.Counts.{Rose};
 ghost use Rattle.byte_ends.specs.Shelf.{ReadsOnly, SameReadFaults};
 ghost use Rattle.byte_ends.specs.Sink.{Puts};
 ghost use Rattle.m3_tool.specs.Answer.{IsAnswered, Stops, answer_of};
 ghost use Rattle.m3_tool.specs.Command.{command_of};
 ghost use Rattle.m3_tool.specs.Lines.{help_text, no_memory_line, read_fault_line};
-ghost use Rattle.m3_tool.specs.Run.{ReadsFailed, answer, is_outside};
-ghost use Rattle.m3_tool.specs.Headline.{AnswersWords, IsUndisturbed, OnlyDue, PutsDue, PutsPart, SaysLowered, SaysPrinted, SaysSatisfied, SaysViolated, SaysWhether};
+ghost use Rattle.m3_tool.specs.Run.{IsNoneOrCount, ReadsFailed, answer, is_outside};
+ghost use Rattle.m3_tool.specs.Headline.{AnswersWords, IsUndisturbed, OnlyDue, PutsDue, PutsPart, SaysCounted, SaysLowered, SaysPrinted, SaysSatisfied, SaysViolated, SaysWhether};
 
 use crate::answer::{Answer, fixed};
+use crate::count::count;
 use crate::print::print;
 use crate::status::Status;
 use crate::tables::Stop;
@@ -26,14 +27,16 @@ bm3 print TABLES
     Prints the canonical text of tables. Reads the file and writes none.
 bm3 lower TABLES WITNESS ALPHA GAMMA
     Prints the products of each channel at two numbers. Reads both files and writes none.
+bm3 count TABLES ROWS..
+    Prints the draws of a proof that are counted, and the proof's length. Reads the file and writes none.
 bm3 --help
     Prints this text.
 bm3 --version
     Prints the version.
 Statuses:
-    0   satisfied, or the text or the products were printed
+    0   satisfied, or what was asked for was printed
     1   the witness violates the tables
-    2   the words fit no command
+    2   the words fit no command, or count has another number of rows
     3   the text of the tables or their shape is refused
     4   the witness is refused
     6   a read failed
@@ -95,6 +98,9 @@ fn answer_to<S: Shelf>(alloc: Global, words: &[String], shelf: &mut S) -> Answer
             let question = Question::Lowered { alpha, gamma };
             answer_or_stop(answer_to_files(alloc, shelf, tables_file, witness_file, question))
         }
+        Some(Command::Count { tables_file, rows }) => {
+            answer_or_stop(count(alloc, shelf, tables_file, rows))
+        }
     }
 }
 
@@ -103,7 +109,8 @@ fn answer_to<S: Shelf>(alloc: Global, words: &[String], shelf: &mut S) -> Answer
 ///
 /// The first refusal ends the run. `bm3 check TABLES WITNESS` reads the tables and judges their
 /// text and their shape before it reads the witness, and `bm3 lower TABLES WITNESS ALPHA GAMMA`
-/// reads the same files in the same order. No command writes a file.
+/// reads the same files in the same order. `bm3 count TABLES ROWS..` judges the tables' text and
+/// their shape before it compares their number with that of ROWS. No command writes a file.
 pub fn run<S: Shelf, W: Sink>(alloc: Global, words: &[String], shelf: &mut S, out: &mut W) -> Status
     // The headline: a check says Yes where the witness satisfies the tables, and No, with the
     // first violation, where it doesn't.
@@ -117,6 +124,10 @@ pub fn run<S: Shelf, W: Sink>(alloc: Global, words: &[String], shelf: &mut S, ou
     // `holds` exactly where the lowered statement holds, and so where the witness satisfies the tables.
     ensures lowered { SaysLowered (command_of (map string_bytes words.now)) (S.state shelf.old) (W.state out.old) (W.state out.new) result }
 
+    // A count says Yes where the tables are accepted, there is a number of rows for each and their
+    // columns aren't too large, and puts the counted draws of a proof for them and its length.
+    ensures counted { SaysCounted (command_of (map string_bytes words.now)) (S.state shelf.old) (W.state out.old) (W.state out.new) result }
+
     // Where the files are told, each status but those of the outside is the one that is due, with
     // its line, and none but those comes where another is due.
     ensures due { IsTrue (S.state shelf.old).told → is_outside result ≡ false → PutsDue (command_of (map string_bytes words.now)) (S.state shelf.old) (W.state out.old) (W.state out.new) result }
@@ -128,9 +139,9 @@ pub fn run<S: Shelf, W: Sink>(alloc: Global, words: &[String], shelf: &mut S, ou
     ensures undisturbed { IsUndisturbed (S.state shelf.old) (S.state shelf.new) (W.state out.old) (W.state out.new) result }
 
     // Words that name no file, and words that fit no command, need neither memory nor a shelf that
-    // tells its files.
+    // tells its files. The status of words comes to these, and to a count.
     ensures words { AnswersWords (command_of (map string_bytes words.now)) (W.state out.old) (W.state out.new) result }
-    ensures fits { result ≡ Status.Words → command_of (map string_bytes words.now) ≡ None }
+    ensures fits { result ≡ Status.Words → IsNoneOrCount (command_of (map string_bytes words.now)) }
 
     // A fault of the outside comes only where its count rose, and that of a file only where all
     // that is read before it is accepted.

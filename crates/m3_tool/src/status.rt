@@ -10,7 +10,7 @@ pub enum Status {
     Yes,
     /// The witness violates the tables.
     No,
-    /// The words fit no pattern.
+    /// The words fit no pattern, or a count has another number of rows than there are tables.
     Words,
     /// The text of the tables or their shape is refused.
     Tables,

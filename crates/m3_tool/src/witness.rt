@@ -4,20 +4,20 @@ ghost use Rattle.std.specs.Prelude.{◌≡◌, IfOk, OnOk, IsTrue};
 ghost use Rattle.byte_ends.specs.Shelf.{bytes_of, ReadFailed, ReadsOnly, SameFaults};
 ghost use Rattle.m3_tool.specs.Run.{IsReadAnswer, IsWitnessAnswer, IsWitnessFileAnswer, WitnessReadsFailed};
 ghost use Rattle.m3_tool.specs.Answer.{answer_of, IsFileReadOnce};
-ghost use Rattle.m3_tool.specs.Checking.{Answering, EndsCheck, IsShapedFile, IsShapedTables, OnReadFault, RefusalEndsCheck, UnlessReadFault};
+ghost use Rattle.m3_tool.specs.Checking.{Answering, EndsCheck, OnReadFault, UnlessReadFault};
 
 use crate::answer::{Answer, made};
 use crate::check::judged;
 use crate::limits::MAX_WITNESS_FILE;
-use crate::lines::{shape_fault_line, too_large_line, too_long_line, witness_fault_line};
+use crate::lines::{too_large_line, too_long_line, witness_fault_line};
 use crate::lower::lowered;
+use crate::shapes::{Shaped, shape_of_file};
 use crate::status::Status;
-use crate::tables::{Parsed, Stop, tables_of_file};
+use crate::tables::Stop;
 use byte_ends::{Shelf, WholeStop, read_whole};
 use column_store::Store;
 use std::alloc::{AllocError, Global};
-use table_shape::{Shape, ShapeStop, resolve};
-use table_text::Tables;
+use table_shape::Shape;
 use witness_reader::{WitnessStop, read_witness};
 
 /// What is asked of the values of a witness: whether they satisfy the tables, or what they come to
@@ -26,13 +26,6 @@ use witness_reader::{WitnessStop, read_witness};
 pub(crate) enum Question {
     Satisfied,
     Lowered { alpha: u128, gamma: u128 },
-}
-
-/// The shape of tables, or the answer to tables that have none.
-#[derive(Drop)]
-pub(crate) enum Shaped {
-    Shape(Shape),
-    Refused(Answer),
 }
 
 /// The answer to the tables in the first file and the witness in the second.
@@ -53,36 +46,6 @@ pub(crate) fn answer_to_files<S: Shelf>(
     match shape_of_file(alloc, shelf, tables_file)? {
         Shaped::Shape(shape) => answer_to_witness(alloc, shelf, witness_file, &shape, question),
         Shaped::Refused(answer) => Ok(answer),
-    }
-}
-
-/// The shape of a file of tables.
-fn shape_of_file<S: Shelf>(alloc: Global, shelf: &mut S, name: &str) -> Result<Shaped, Stop>
-    ensures shape { IsTrue (S.state shelf.old).told → IfOk result (IsShapedFile (bytes_of (S.state shelf.old) name.now)) }
-    ensures kind { IfOk result RefusalEndsCheck }
-    ensures failed { OnReadFault result (ReadFailed (S.state shelf.old) (S.state shelf.new) name.now) }
-    ensures quiet { UnlessReadFault result (SameFaults (S.state shelf.old) (S.state shelf.new)) }
-    ensures reads_only { ReadsOnly (S.state shelf.old) (S.state shelf.new) }
-{
-    let tables = match tables_of_file(alloc, shelf, name)? {
-        Parsed::Tables(tables) => tables,
-        Parsed::Refused(answer) => return Ok(Shaped::Refused(answer)),
-    };
-    Ok(shape_of_tables(alloc, &tables)?)
-}
-
-/// The shape of tables.
-fn shape_of_tables(alloc: Global, tables: &Tables) -> Result<Shaped, AllocError>
-    ensures shape { IfOk result (IsShapedTables tables.now) }
-    ensures kind { IfOk result RefusalEndsCheck }
-{
-    match resolve(alloc, tables) {
-        Ok(shape) => Ok(Shaped::Shape(shape)),
-        Err(ShapeStop::Fault(fault)) => {
-            let line = shape_fault_line(alloc, fault)?;
-            Ok(Shaped::Refused(made(Status::Tables, line)))
-        }
-        Err(ShapeStop::NoMemory) => Err(AllocError),
     }
 }
 

@@ -5,7 +5,7 @@ use Rattle.m3_tool.proofs.Runs.{may_put, says_whether}
 use Rattle.witness_reader.specs.Witness.{filling_of}
 use Rattle.m3_tool.specs.Lines.{lowered_text}
 use Rattle.m3_tool.proofs.OneAnswerDue.{due_once}
-use Rattle.m3_tool.proofs.Verdicts.{satisfied, violated, printed, lowered}
+use Rattle.m3_tool.proofs.Verdicts.{satisfied, violated, printed, lowered, counted}
 use Rattle.m3_tool.proofs.running.run.Goals as goal
 
 pub returns-in-Ok-clause-satisfied : goal.returns-in-Ok-clause-satisfied
@@ -55,6 +55,13 @@ returns-in-Ok-clause-lowered g c tables witness alpha gamma is told is_yes =
       satisfied = λ satisfies. l.answered.satisfied satisfies;
       puts = rw line at (rw c.as_bytes.ensures at c.in-Ok.ensures.done);
     }
+
+pub returns-in-Ok-clause-counted : goal.returns-in-Ok-clause-counted
+returns-in-Ok-clause-counted g c tables rows is told is_yes =
+    let inside : is_outside c.answer_to-answer.result.status ≡ false = ap is_outside is_yes in
+    let due = rw is at (c.answer_to-answer.ensures.due told inside) in
+    let p = counted rows _ _ due is_yes in
+    (p.0, rw p.1 at (rw c.as_bytes.ensures at c.in-Ok.ensures.done))
 
 pub returns-in-Ok-clause-only : goal.returns-in-Ok-clause-only
 returns-in-Ok-clause-only g c told inside a due = due_once _ _ (answer_of c.answer_to-answer.result) a (c.answer_to-answer.ensures.once told inside) (c.answer_to-answer.ensures.due told inside) due
