@@ -1,4 +1,9 @@
 pub mod AdderPlan
+pub mod CourseChannels
+pub mod CourseForms
+pub mod CourseGroups
+pub mod CoursePlaces
+pub mod CourseSteps
 pub mod Ending
 pub mod Entering
 pub mod EnteringFits

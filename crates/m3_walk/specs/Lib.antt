@@ -1,3 +1,4 @@
+pub mod Course
 pub mod Kept
 pub mod Linked
 pub mod Linking
