@@ -1,5 +1,6 @@
 pub mod AdderPlan
 pub mod CourseChannels
+pub mod CourseColumns
 pub mod CourseForms
 pub mod CourseGroups
 pub mod CoursePlaces
