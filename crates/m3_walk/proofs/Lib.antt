@@ -1,10 +1,14 @@
 pub mod AdderPlan
+pub mod Course
 pub mod CourseChannels
 pub mod CourseColumns
+pub mod CourseEnd
+pub mod CourseFirst
 pub mod CourseForms
 pub mod CourseGroups
 pub mod CoursePlaces
 pub mod CourseSteps
+pub mod CourseTables
 pub mod Ending
 pub mod Entering
 pub mod EnteringFits
