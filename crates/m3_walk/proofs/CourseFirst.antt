@@ -22,7 +22,7 @@ use Rattle.table_shape.specs.Parts.{ShapeParts}
 use Rattle.table_shape.specs.Width.{has_width, has_width_step}
 use Rattle.channel_products.specs.Channels.{flushes_from, flushes_of}
 use Rattle.channel_products.specs.Given.{named_columns, selector_columns}
-use Rattle.zerocheck.specs.Group.{named, names, names_step}
+use Rattle.zerocheck.specs.Group.{names, names_step}
 use Rattle.zerocheck.proofs.FirstLaws.{Fitting, all_fitting}
 use Rattle.eval_reduce.specs.Virtual.{column_of, vars_on}
 use Rattle.proof_plan.specs.Plan.{first_columns, group_columns, times_in}

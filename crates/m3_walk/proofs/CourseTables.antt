@@ -20,7 +20,7 @@ use Rattle.m3_walk.proofs.CoursePlaces.{all_mapped, count_on}
 use Rattle.m3_walk.proofs.CourseSteps.{Goes, none_go, same_due, then_go}
 
 -- ---- columns, the last first
-length-backwards : (cs : List ColumnShape) → length (backwards cs) ≡ length cs
+pub length-backwards : (cs : List ColumnShape) → length (backwards cs) ≡ length cs
 length-backwards [] = refl
 length-backwards (c ∷ cs) = let h = length-backwards cs in length-append (backwards cs) (c ∷ []) ∙ omega arith
 

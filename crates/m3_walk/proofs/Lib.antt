@@ -6,6 +6,7 @@ pub mod CourseEnd
 pub mod CourseFirst
 pub mod CourseForms
 pub mod CourseGroups
+pub mod CourseLength
 pub mod CoursePlaces
 pub mod CourseSteps
 pub mod CourseTables

@@ -1,6 +1,6 @@
 -- The reductions of the tables of a shape on numbers of rows, in the order in which they come.
 -- Source: docs/PROOF.md, "The plan" and "The reductions of a proof".
-use Rattle.std.specs.Prelude.{ℕ, zero, suc, ◌≤◌, ◌+◌, ◌==◌, ltb, cond, List, [], ◌∷◌, ◌++◌, length, map, slice_index, Option, None, Some}
+use Rattle.std.specs.Prelude.{ℕ, ◌≤◌, ◌+◌, ◌==◌, ltb, cond, List, [], ◌∷◌, ◌++◌, length, map, slice_index, Option, None, Some}
 use Rattle.std.specs.List.{flat_map}
 use Rattle.list_laws.specs.CeilLog.{ceil_log}
 use Rattle.cube_laws.specs.Sums.{tabulate}
@@ -16,7 +16,7 @@ use Rattle.channel_products.specs.declared.flushed.Flushed.{Flushed}
 use Rattle.channel_products.specs.Balancing as balance
 use Rattle.channel_products.specs.Channels.{channels_of, flushes_from}
 use Rattle.channel_products.specs.Descent as descent
-use Rattle.zerocheck.specs.Group.{Group, group_of}
+use Rattle.zerocheck.specs.Group.{group_of}
 use Rattle.zerocheck.specs.Zero as zero
 use Rattle.eval_reduce.specs.Linear as linear
 use Rattle.eval_reduce.specs.Linear.{combination_of}
