@@ -9,11 +9,8 @@ use Rattle.table_shape.specs.Limits.{max_rows}
 use Rattle.table_shape.specs.Parts.{ShapeParts}
 use Rattle.table_shape.specs.Placement.{blocks, places_log}
 use Rattle.walk_chain.specs.Chain.{Suits, plan_of}
-use Rattle.bit_claim.specs.Batching as batch
-use Rattle.ring_switch.specs.Switching as switch
 use Rattle.proof_plan.specs.Plan.{bit_claims, bit_entries, channel_entries, constraint_entries, first_columns, packed_log, plan, switch_entries, table_entries}
-use Rattle.m3_walk.specs.declared.stage.Stage.TheVariants as stage
-use Rattle.m3_walk.specs.Course.{IsEnough, channel_stages, claim_count, constraint_stages, course, table_stages, walked}
+use Rattle.m3_walk.specs.Course.{IsEnough, channel_stages, claim_count, constraint_stages, course, walked}
 use Rattle.m3_walk.specs.Kept.{none_wait}
 use Rattle.m3_walk.specs.Linked.{linking}
 use Rattle.m3_walk.specs.Linking.{HasBlock, Place, sizes}
@@ -23,7 +20,7 @@ use Rattle.m3_walk.proofs.CourseFirst.{IsThere, all_started, started_places, tot
 use Rattle.m3_walk.proofs.CourseGroups.{constrained_places, constraints_go}
 use Rattle.m3_walk.proofs.CoursePlaces.{all_mapped}
 use Rattle.m3_walk.proofs.CourseSteps.{Goes, all_suit, same_due, then_go}
-use Rattle.m3_walk.proofs.CourseTables.{Between, StandsFrom, all_sources, tables_pass}
+use Rattle.m3_walk.proofs.CourseTables.{StandsFrom, TablesPassed, all_sources, tables_pass}
 
 -- ---- claims on columns, as many as can wait
 counted : (tables : List TableShape) → claim_count tables ≡ total first_columns tables + all_sources tables
@@ -50,39 +47,40 @@ in_turn shape rows =
     sym (walked_append (a ++ b ++ c ++ d) e ∙ (λ i. walked_append (a ++ b ++ c) d i ++ walked e) ∙ (λ i. walked_append (a ++ b) c i ++ walked d ++ walked e) ∙ (λ i. walked_append a b i ++ walked c ++ walked d ++ walked e)
     ∙ append_assoc (walked a ++ walked b ++ walked c) (walked d) (walked e))
 
+none_more : (n : ℕ) → n ≡ 0 + n
+none_more n = omega arith
+
+-- claims on columns, and then those on committed ones
+columns_go : (shape : ShapeParts) (rows : List ℕ) (room : ℕ) → ShapeFits shape → length rows ≡ length shape.tables → ((t : ℕ) → slice_index rows t ≤ max_rows)
+    → Goes (kept_at room [] []) (channel_stages shape rows ++ constraint_stages shape.tables rows 0 shape.tables) (walked (channel_entries shape rows) ++ walked (constraint_entries rows 0 shape.tables)) (kept_at room [] (started_places shape rows))
+    → TablesPassed shape.tables rows room 0 shape.tables 0 (started_places shape rows) → Goes (kept_at room [] []) (course shape rows) (walked (plan shape rows)) (packed_at room (places_log (blocks shape.tables rows) - 7))
+columns_go shape rows room fits long few started columns =
+    let all = shape.tables in
+    let size = columns.state.size in
+    let last = columns.state.enough in
+    same_due (in_turn shape rows)
+    (then_go (then_go started columns.goes)
+    (end_goes room (bit_claims all) (blocks all rows) columns.places (omega arith) (omega arith)
+    (all_mapped (StandsFrom all rows (length all)) (HasBlock (blocks all rows)) (committed_has_block all rows long few fits.tables) columns.places (subst (λ n. AllByRecursion (StandsFrom all rows n) columns.places) (sym (none_more (length all))) columns.state.stand))))
+
 course_goes : (shape : ShapeParts) (rows : List ℕ) (room : ℕ) → ShapeFits shape → length rows ≡ length shape.tables → ((t : ℕ) → slice_index rows t ≤ max_rows) → IsEnough shape room
     → Goes (kept_at room [] []) (course shape rows) (walked (plan shape rows)) (packed_at room (places_log (blocks shape.tables rows) - 7))
 course_goes shape rows room fits long few enough =
     let all = shape.tables in
-    let bs = blocks all rows in
     let first = all_started shape rows fits in
     let count = first.size in
     let sum = counted all in
     let most = enough.columns in
     let parts = length-append (flushed_places shape rows) (constrained_places rows 0 all) in
     let each : (k : ℕ) (table : TableShape) → slice_get all k ≡ Some table → slice_get all (0 + k) ≡ Some table = λ k table at. subst (λ n. slice_get all n ≡ Some table) (none_more k) at in
-    let channels = channels_go shape rows room fits enough.products (omega arith) in
-    let groups = constraints_go all room rows 0 all (flushed_places shape rows) each (omega arith) in
-    let between : Between all rows room 0 all 0 (started_places shape rows) = record {
+    columns_go shape rows room fits long few
+    (then_go (channels_go shape rows room fits enough.products (omega arith)) (constraints_go all room rows 0 all (flushed_places shape rows) each (omega arith)))
+    (tables_pass all rows room 0 all 0 (started_places shape rows) each (λ t table at. (fits.tables t table at, first.low t table at)) (record {
       stand = all_mapped (IsThere all rows) (StandsFrom all rows 0) (starts all rows) (started_places shape rows) first.there;
       counts = λ t c table l at. first.counts t c table at;
       size = omega arith;
       enough = omega arith;
-    } in
-    let columns = tables_pass all rows room 0 all 0 (started_places shape rows) each (λ t table at. (fits.tables t table at, first.low t table at)) between in
-    let size = columns.state.size in
-    let last = columns.state.enough in
-    let have : AllByRecursion (HasBlock bs) columns.places =
-    all_mapped (StandsFrom all rows (length all)) (HasBlock bs) (committed_has_block all rows long few fits.tables) columns.places (subst (λ n. AllByRecursion (StandsFrom all rows n) columns.places) (sym (none_more (length all))) columns.state.stand) in
-    same_due _ _ _ _ _ (in_turn shape rows)
-    (then_go _ _ _ (channel_stages shape rows ++ constraint_stages all rows 0 all ++ table_stages all rows 0 all) (stage.Bits (batch.waiting bs (bit_claims all)) ∷ stage.Words (switch.waiting (places_log bs)) ∷ [])
-    (walked (channel_entries shape rows) ++ walked (constraint_entries rows 0 all) ++ walked (table_entries rows 0 all)) (walked (bit_entries (places_log bs) (bit_claims all)) ++ walked (switch_entries (places_log bs - 7)))
-    (then_go _ _ _ (channel_stages shape rows ++ constraint_stages all rows 0 all) (table_stages all rows 0 all) (walked (channel_entries shape rows) ++ walked (constraint_entries rows 0 all)) (walked (table_entries rows 0 all))
-    (then_go _ _ _ (channel_stages shape rows) (constraint_stages all rows 0 all) (walked (channel_entries shape rows)) (walked (constraint_entries rows 0 all)) channels groups) columns.goes)
-    (end_goes room (bit_claims all) bs columns.places (omega arith) (omega arith) have))
-  where
-    none_more : (n : ℕ) → n ≡ 0 + n
-    none_more n = omega arith
+    }))
 
 pub course_is_the_plan : (shape : ShapeParts) (rows : List ℕ) (room : ℕ) → ShapeFits shape → length rows ≡ length shape.tables → ((t : ℕ) → slice_index rows t ≤ max_rows) → IsEnough shape room
     → plan_of linking (sizes (none_wait room)) (course shape rows) ≡ walked (plan shape rows)

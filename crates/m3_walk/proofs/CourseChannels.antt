@@ -72,12 +72,12 @@ flush_goes room f fs ps few low =
 
 flushes_go : (room : ℕ) (fs : List Flushed) (ps : List Place) → length fs ≤ room → length ps + length (flat_map leaf_places fs) ≤ room
     → Goes (kept_at room fs ps) (map flush_stage fs) (flat_map flush_due fs) (kept_at room [] (ps ++ flat_map leaf_places fs))
-flushes_go room [] ps few low = same_left _ _ _ _ _ (ap (kept_at room []) (sym (append-nil ps))) (none_go _)
+flushes_go room [] ps few low = same_left (ap (kept_at room []) (sym (append-nil ps))) (none_go _)
 flushes_go room (f ∷ fs) ps few low =
     let now = length-append (leaf_places f) (flat_map leaf_places fs) in
     let more = length-append ps (leaf_places f) in
-    same_left _ _ _ _ _ (ap (kept_at room []) (append_assoc ps (leaf_places f) (flat_map leaf_places fs)))
-    (then_go _ _ _ (flush_stage f ∷ []) _ (flush_due f) _ (flush_goes room f fs ps few (omega arith)) (flushes_go room fs (ps ++ leaf_places f) (omega arith) (omega arith)))
+    same_left (ap (kept_at room []) (append_assoc ps (leaf_places f) (flat_map leaf_places fs)))
+    (then_go (flush_goes room f fs ps few (omega arith)) (flushes_go room fs (ps ++ leaf_places f) (omega arith) (omega arith)))
 
 walked_layers : (f : Flushed) (k d : ℕ) → k + d ≡ row_vars f → walked (plans.layer_entries (length (leaf_columns f)) k d) ≡ descent.layer_entries f k d
 walked_layers f k zero e =
@@ -127,16 +127,15 @@ entries_with shape rows cs =
 channels_with : (shape : ShapeParts) (rows : List ℕ) (room : ℕ) → ShapeFits shape → flush_count shape.tables ≤ room → length (flushed_places shape rows) ≤ room → (cs : List ChannelShape) → shape.channels ≡ cs
     → Goes (kept_at room [] []) (stages_with shape rows cs) (walked (entries_with shape rows cs)) (kept_at room [] (flushed_places shape rows))
 channels_with shape rows room fits few low [] e =
-    same_left _ _ _ _ _ (ap (λ fs. kept_at room [] (flat_map leaf_places fs)) (sym (without_channels shape rows fits (ap (map (λ (c : ChannelShape). c.width)) e)))) (none_go _)
+    same_left (ap (λ fs. kept_at room [] (flat_map leaf_places fs)) (sym (without_channels shape rows fits (ap (map (λ (c : ChannelShape). c.width)) e)))) (none_go _)
 channels_with shape rows room fits few low (c ∷ cs) e =
     let ch = channels_of shape rows in
     let fs = flushes_from rows 0 shape.tables in
     let count = length-flushes_from rows 0 shape.tables in
     subst (λ b. Goes (kept_at room [] []) (cond b [] (stage.Channels (balance.waiting ch) ∷ map flush_stage fs)) (walked (cond b [] (Draw draw.Alpha (alpha_count shape rows) ∷ Draw draw.Gamma (gamma_count shape rows) ∷ Message check.Products (flush_count shape.tables) ∷ flushes_entries rows 0 shape.tables))) (kept_at room [] (flushed_places shape rows)))
     (sym (not_none (length cs)))
-    (same_due _ _ _ _ _ (λ i. due.Draw draw.Alpha (alpha_count shape rows) ∷ due.Draw draw.Gamma (gamma_count shape rows) ∷ due.Message check.Products (count i) ∷ sym (walked_flushes rows 0 shape.tables) i)
-    (then_go _ _ _ (stage.Channels (balance.waiting ch) ∷ []) _ (due.Draw draw.Alpha (alpha_count shape rows) ∷ due.Draw draw.Gamma (gamma_count shape rows) ∷ due.Message check.Products (length fs) ∷ []) _
-    (one_goes (stage.Channels (balance.waiting ch)) _ (kept_at room fs []) _ (has_room room [] [] (omega arith) (omega arith)) tt
+    (same_due (λ i. due.Draw draw.Alpha (alpha_count shape rows) ∷ due.Draw draw.Gamma (gamma_count shape rows) ∷ due.Message check.Products (count i) ∷ sym (walked_flushes rows 0 shape.tables) i)
+    (then_go (one_goes (stage.Channels (balance.waiting ch)) _ (kept_at room fs []) _ (has_room room [] [] (omega arith) (omega arith)) tt
     (ap (λ (x : List ChannelShape). balance.balancing.entries (balance.opened ch (map (λ (c : ChannelShape). c.width) x))) e)
     (ap (λ (x : List ChannelShape). kept_at room (balance_flushes (balance.opened ch (map (λ (c : ChannelShape). c.width) x))) []) e))
     (flushes_go room fs [] (omega (arith, count)) (omega arith))))

@@ -181,12 +181,29 @@ pub record Passed (all : List TableShape) (rows : List ℕ) (room t w s : ℕ) (
   pub goes : Goes (kept_at room [] old) gs es (kept_at room [] places)
   pub state : Open all rows room t w s cs claimed done places
 
+pub then_pass : {all : List TableShape} {rows : List ℕ} {room t w s : ℕ} {gs hs : List Stage} {es fs : List Entry} {cs ds : List ColumnShape} {claimed more : List ℕ} {done sum : ℕ} {old : List Place}
+    → (a : Passed all rows room t w s gs es cs claimed done old) → Passed all rows room t w s hs fs ds more sum a.places → Passed all rows room t w s (gs ++ hs) (es ++ fs) ds more sum old
+then_pass a b = record { places = b.places; goes = then_go a.goes b.goes; state = b.state }
+
+-- the same of reductions, entries and a number that are equal
+pub same_pass : {all : List TableShape} {rows : List ℕ} {room t w s : ℕ} {gs hs : List Stage} {es fs : List Entry} {cs : List ColumnShape} {claimed : List ℕ} {done sum : ℕ} {old : List Place}
+    → gs ≡ hs → es ≡ fs → done ≡ sum → Passed all rows room t w s gs es cs claimed done old → Passed all rows room t w s hs fs cs claimed sum old
+same_pass {all = all} {rows = rows} {room = room} {t = t} {w = w} {s = s} {hs = hs} {es = es} {cs = cs} {claimed = claimed} {old = old} p q r a = record {
+  places = a.places;
+  goes = same_due q (subst (λ gs. Goes (kept_at room [] old) gs es (kept_at room [] a.places)) p a.goes);
+  state = subst (λ d. Open all rows room t w s cs claimed d a.places) r a.state;
+}
+
 -- ---- one claim on the column, whether there were more or not
 record Merged (room t c n : ℕ) (gs : List Stage) (es : List Entry) (old : List Place) : Type 0 where
   places : List Place
   goes : Goes (kept_at room [] old) gs es (kept_at room [] places)
   one : IsOne t c n places
   rest : elsewhere t c places ≡ elsewhere t c old
+
+then_passed : {all : List TableShape} {rows : List ℕ} {room t w s c n : ℕ} {gs hs : List Stage} {es fs : List Entry} {cs : List ColumnShape} {claimed : List ℕ} {done : ℕ} {old : List Place}
+    → (m : Merged room t c n gs es old) → Passed all rows room t w s hs fs cs claimed done m.places → Passed all rows room t w s (gs ++ hs) (es ++ fs) cs claimed done old
+then_passed m a = record { places = a.places; goes = then_go m.goes a.goes; state = a.state }
 
 own_one : (t c n : ℕ) → filter (is_place t c) (place t c n ∷ []) ≡ place t c n ∷ []
 own_one t c n = ap (λ b. cond b (place t c n ∷ []) []) (here t c (place t c n) refl refl)
@@ -285,7 +302,7 @@ kind_passes all rows room t w s table column before claimed done old ps (Virtual
     let whole = length-append (elsewhere t c old) more in
     record {
       places = elsewhere t c old ++ more;
-      goes = same_left _ _ _ _ _ (ap (λ l. kept_at room [] (l ++ more)) (others-elsewhere t c ps (ap length h.one) ∙ h.rest))
+      goes = same_left (ap (λ l. kept_at room [] (l ++ more)) (others-elsewhere t c ps (ap length h.one) ∙ h.rest))
           (form_goes room table.columns t c n f ps (omega arith) (block_fits (take c table.columns) column (ceil_log (slice_index rows t)) f has) h.one);
       state = record {
         stand = all-append (Stands all rows t c) (elsewhere t c old) more (subst (AllByRecursion (Stands all rows t c)) h.rest (others_stand all rows room t w s column before claimed done old ps h)) (sources_stand all rows t c table f column next.table_is (form_sources f) from_form);
@@ -332,14 +349,9 @@ column_passes all rows room t w s table column before claimed done ps next h =
           let at = column_there all t c table column next.table_is next.column_is in
           let some = some_there (times_in c claimed) e in
           let m = merged room t c n (times_in c claimed) ps (omega arith) count (all_filtered (Stands all rows t (suc c)) (λ (p : Place). p.vars ≡ n) (is_place t c) (own_vars all rows t (suc c) c column at) ps h.stand) some in
-          let k = kind_passes all rows room t w s table column before claimed done ps m.places column.kind next (record { state = h; some = some; one = m.one; rest = m.rest }) refl next.fits.kind in
-          record {
-            places = k.places;
-            goes = subst (λ gs. Goes (kept_at room [] ps) gs (walked (merge_entries n (times_in c claimed) ++ kind_entries column.kind)) (kept_at room [] k.places))
-                (ap (λ gs. merge_stages t c n (times_in c claimed) ++ gs) (sym (form_stages_are all (slice_index rows t) t c table column next.table_is next.column_is)))
-                (same_due _ _ _ _ _ (sym (walked_append (merge_entries n (times_in c claimed)) (kind_entries column.kind))) (then_go _ _ _ (merge_stages t c n (times_in c claimed)) _ (walked (merge_entries n (times_in c claimed))) _ m.goes k.goes));
-            state = k.state;
-          }
+          same_pass (ap (λ gs. merge_stages t c n (times_in c claimed) ++ gs) (sym (form_stages_are all (slice_index rows t) t c table column next.table_is next.column_is)))
+          (sym (walked_append (merge_entries n (times_in c claimed)) (kind_entries column.kind))) refl
+          (then_passed m (kind_passes all rows room t w s table column before claimed done ps m.places column.kind next (record { state = h; some = some; one = m.one; rest = m.rest }) refl next.fits.kind))
     ] refl
 
 -- ---- all columns of a table
@@ -357,10 +369,5 @@ columns_pass all rows room t w s table [] claimed done ps next h =
 columns_pass all rows room t w s table (column ∷ before) claimed done ps next h =
     let j = times_in (length before) claimed in
     let one = column_passes all rows room t w s table column before claimed done ps next.0 h in
-    let more = columns_pass all rows room t w s table before (claims_after column j claimed) (done + cond (j == 0) 0 (is_committed column.kind)) one.places next.1 one.state in
-    record {
-      places = more.places;
-      goes = same_due _ _ _ _ _ (sym (walked_append (column_entries (slice_index rows t) column j) (columns_entries (slice_index rows t) before (claims_after column j claimed))))
-          (then_go _ _ _ (column_stages all (slice_index rows t) t (length before) column j) _ (walked (column_entries (slice_index rows t) column j)) _ one.goes more.goes);
-      state = subst (λ d. Open all rows room t w s [] [] d more.places) (omega arith) more.state;
-    }
+    same_pass refl (sym (walked_append (column_entries (slice_index rows t) column j) (columns_entries (slice_index rows t) before (claims_after column j claimed)))) (omega arith)
+    (then_pass one (columns_pass all rows room t w s table before (claims_after column j claimed) (done + cond (j == 0) 0 (is_committed column.kind)) one.places next.1 one.state))

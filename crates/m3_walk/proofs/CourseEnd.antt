@@ -138,8 +138,7 @@ words_go room n =
 pub end_goes : (room j : ℕ) (bs : List Block) (ps : List Place) → length ps ≤ room → length ps ≡ j → AllByRecursion (HasBlock bs) ps
     → Goes (kept_at room [] ps) (stage.Bits (batch.waiting bs j) ∷ stage.Words (switch.waiting (places_log bs)) ∷ []) (walked (bit_entries (places_log bs) j) ++ walked (switch_entries (places_log bs - 7))) (packed_at room (places_log bs - 7))
 end_goes room j bs ps low count blocks =
-    then_go _ _ _ (stage.Bits (batch.waiting bs j) ∷ []) (stage.Words (switch.waiting (places_log bs)) ∷ []) (walked (bit_entries (places_log bs) j)) (walked (switch_entries (places_log bs - 7)))
-    (bits_go room j bs ps low count blocks) (words_go room (places_log bs))
+    then_go (bits_go room j bs ps low count blocks) (words_go room (places_log bs))
 
 pub last_has_room : (room n : ℕ) → HasRoom (packed_at room n)
 last_has_room room n = record { products = omega arith; columns = omega arith; bits = omega arith; packed = omega arith }

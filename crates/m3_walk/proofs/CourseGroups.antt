@@ -50,7 +50,7 @@ none_kept (x ∷ xs) = none_kept xs
 
 where_goes : (room t v rows n : ℕ) (zs : List ConstraintShape) (ps : List Place) → length ps ≤ room
     → Goes (kept_at room [] ps) (stages_of t v rows n zs) (walked (entries_of v rows n zs)) (kept_at room [] (ps ++ places_of t v rows n zs))
-where_goes room t v rows n [] ps low = same_left _ _ _ _ _ (ap (kept_at room []) (sym (append-nil ps) ∙ ap (λ cs. ps ++ places_on t (ceil_log rows + v) cs) (sym (none_kept (tabulate n (λ c. c)))))) (none_go _)
+where_goes room t v rows n [] ps low = same_left (ap (kept_at room []) (sym (append-nil ps) ∙ ap (λ cs. ps ++ places_on t (ceil_log rows + v) cs) (sym (none_kept (tabulate n (λ c. c)))))) (none_go _)
 where_goes room t v rows n (z ∷ zs) ps low =
     let g : Group = group_with t v rows n (z ∷ zs) in
     let all : List PlanEntry = plans.sum_entries draw.ZeroRound (g.degree + 2) g.vars check.ZeroFinal (length g.columns) in
@@ -75,13 +75,13 @@ group_goes all room rows t v table ps at low =
 -- ---- all of a table
 groups_go : (all : List TableShape) (room rows t : ℕ) (table : TableShape) (vs : List ℕ) (ps : List Place) → slice_get all t ≡ Some table → length ps + length (flat_map (group_places rows t table) vs) ≤ room
     → Goes (kept_at room [] ps) (flat_map (group_stages all rows t) vs) (walked (flat_map (group_entries rows table) vs)) (kept_at room [] (ps ++ flat_map (group_places rows t table) vs))
-groups_go all room rows t table [] ps at low = same_left _ _ _ _ _ (ap (kept_at room []) (sym (append-nil ps))) (none_go _)
+groups_go all room rows t table [] ps at low = same_left (ap (kept_at room []) (sym (append-nil ps))) (none_go _)
 groups_go all room rows t table (v ∷ vs) ps at low =
     let now = length-append (group_places rows t table v) (flat_map (group_places rows t table) vs) in
     let more = length-append ps (group_places rows t table v) in
-    same_due _ _ _ _ _ (sym (walked_append (group_entries rows table v) _))
-    (same_left _ _ _ _ _ (ap (kept_at room []) (append_assoc ps (group_places rows t table v) (flat_map (group_places rows t table) vs)))
-    (then_go _ _ _ (group_stages all rows t v) _ (walked (group_entries rows table v)) _ (group_goes all room rows t v table ps at (omega arith)) (groups_go all room rows t table vs (ps ++ group_places rows t table v) at (omega arith))))
+    same_due (sym (walked_append (group_entries rows table v) _))
+    (same_left (ap (kept_at room []) (append_assoc ps (group_places rows t table v) (flat_map (group_places rows t table) vs)))
+    (then_go (group_goes all room rows t v table ps at (omega arith)) (groups_go all room rows t table vs (ps ++ group_places rows t table v) at (omega arith))))
 
 -- ---- all
 abbrev pub constraint_places : ℕ → ℕ → TableShape → List Place
@@ -94,14 +94,13 @@ constrained_places rows t (table ∷ tables) = constraint_places (slice_index ro
 pub constraints_go : (all : List TableShape) (room : ℕ) (rows : List ℕ) (t : ℕ) (tables : List TableShape) (ps : List Place)
     → ((k : ℕ) (table : TableShape) → slice_get tables k ≡ Some table → slice_get all (t + k) ≡ Some table) → length ps + length (constrained_places rows t tables) ≤ room
     → Goes (kept_at room [] ps) (constraint_stages all rows t tables) (walked (constraint_entries rows t tables)) (kept_at room [] (ps ++ constrained_places rows t tables))
-constraints_go all room rows t [] ps at low = same_left _ _ _ _ _ (ap (kept_at room []) (sym (append-nil ps))) (none_go _)
+constraints_go all room rows t [] ps at low = same_left (ap (kept_at room []) (sym (append-nil ps))) (none_go _)
 constraints_go all room rows t (table ∷ tables) ps at low =
     let here = constraint_places (slice_index rows t) t table in
     let now = length-append here (constrained_places rows (t + 1) tables) in
     let more = length-append ps here in
     let own : slice_get all t ≡ Some table = subst (λ n. slice_get all n ≡ Some table) (omega arith) (at 0 table refl) in
-    same_due _ _ _ _ _ (sym (walked_append (flat_map (group_entries (slice_index rows t) table) (tabulate (max_log_values + 1) (λ v. v))) _))
-    (same_left _ _ _ _ _ (ap (kept_at room []) (append_assoc ps here (constrained_places rows (t + 1) tables)))
-    (then_go _ _ _ (flat_map (group_stages all (slice_index rows t) t) (tabulate (max_log_values + 1) (λ v. v))) _ (walked (flat_map (group_entries (slice_index rows t) table) (tabulate (max_log_values + 1) (λ v. v)))) _
-    (groups_go all room (slice_index rows t) t table (tabulate (max_log_values + 1) (λ v. v)) ps own (omega arith))
+    same_due (sym (walked_append (flat_map (group_entries (slice_index rows t) table) (tabulate (max_log_values + 1) (λ v. v))) _))
+    (same_left (ap (kept_at room []) (append_assoc ps here (constrained_places rows (t + 1) tables)))
+    (then_go (groups_go all room (slice_index rows t) t table (tabulate (max_log_values + 1) (λ v. v)) ps own (omega arith))
     (constraints_go all room rows (t + 1) tables (ps ++ here) (λ k other e. subst (λ n. slice_get all n ≡ Some other) (omega arith) (at (suc k) other e)) (omega arith))))

@@ -51,19 +51,19 @@ none_go k = record { due = refl; leads = refl; suits = tt }
 pub one_goes : (g : Stage) (k m : Sizes) (es : List Entry) → HasRoom k → Takes g k → plan_with g k ≡ es → sizes_after g k ≡ m → Goes k (g ∷ []) es m
 one_goes g k m es r t p s = record { due = append-nil (plan_with g k) ∙ p; leads = s; suits = (r, (t, tt)) }
 
-pub then_go : (k l m : Sizes) (gs hs : List Stage) (es fs : List Entry) → Goes k gs es l → Goes l hs fs m → Goes k (gs ++ hs) (es ++ fs) m
-then_go k l m gs hs es fs a b = record {
+pub then_go : {k l m : Sizes} {gs hs : List Stage} {es fs : List Entry} → Goes k gs es l → Goes l hs fs m → Goes k (gs ++ hs) (es ++ fs) m
+then_go {k = k} {gs = gs} {hs = hs} {es = es} a b = record {
   due = plan_append k gs hs ∙ (λ i. a.due i ++ plan_of linking (a.leads i) hs) ∙ ap (λ x. es ++ x) b.due;
   leads = through_append k gs hs ∙ ap (λ x. sizes_through x hs) a.leads ∙ b.leads;
   suits = suits_append k gs hs a.suits (subst (λ x. SuitsThrough x hs) (sym a.leads) b.suits);
 }
 
 -- the same with entries, or sizes, that are equal
-pub same_due : (k m : Sizes) (gs : List Stage) (es fs : List Entry) → es ≡ fs → Goes k gs es m → Goes k gs fs m
-same_due k m gs es fs e g = subst (λ x. Goes k gs x m) e g
+pub same_due : {k m : Sizes} {gs : List Stage} {es fs : List Entry} → es ≡ fs → Goes k gs es m → Goes k gs fs m
+same_due {k = k} {m = m} {gs = gs} e g = subst (λ x. Goes k gs x m) e g
 
-pub same_left : (k m n : Sizes) (gs : List Stage) (es : List Entry) → m ≡ n → Goes k gs es m → Goes k gs es n
-same_left k m n gs es e g = subst (λ x. Goes k gs es x) e g
+pub same_left : {k m n : Sizes} {gs : List Stage} {es : List Entry} → m ≡ n → Goes k gs es m → Goes k gs es n
+same_left {k = k} {gs = gs} {es = es} e g = subst (λ x. Goes k gs es x) e g
 
 pub all_suit : (k m : Sizes) (gs : List Stage) (es : List Entry) → Goes k gs es m → HasRoom m → Suits linking k gs
 all_suit k m gs es g r = suits_to_the_last k gs g.suits (subst HasRoom (sym g.leads) r)

@@ -14,7 +14,7 @@ use Rattle.proof_plan.specs.Plan.{backwards, bit_claims, columns_entries, commit
 use Rattle.m3_walk.specs.Course.{columns_stages, source_count, table_stages, walked}
 use Rattle.m3_walk.specs.Linking.{Place}
 use Rattle.m3_walk.proofs.CourseChannels.{kept_at, walked_append}
-use Rattle.m3_walk.proofs.CourseColumns.{AllNext, Open, Stands, below, below_all, columns_pass}
+use Rattle.m3_walk.proofs.CourseColumns.{AllNext, Open, Passed, Stands, below, below_all, columns_pass}
 use Rattle.m3_walk.proofs.CourseFirst.{total}
 use Rattle.m3_walk.proofs.CoursePlaces.{all_mapped, count_on}
 use Rattle.m3_walk.proofs.CourseSteps.{Goes, none_go, same_due, then_go}
@@ -97,6 +97,20 @@ pub record TablesPassed (all : List TableShape) (rows : List ℕ) (room t : ℕ)
   pub goes : Goes (kept_at room [] old) (table_stages all rows t tables) (walked (table_entries rows t tables)) (kept_at room [] places)
   pub state : Between all rows room (t + length tables) [] (done + bit_claims tables) places
 
+-- a table, and then those after it
+then_tables : (all : List TableShape) (rows : List ℕ) (room t w s done d : ℕ) (table : TableShape) (tables : List TableShape) (old : List Place) → d ≡ done + committed_claims (backwards table.columns) (first_columns table)
+    → (here : Passed all rows room t w s (columns_stages all (slice_index rows t) t (backwards table.columns) (first_columns table)) (walked (columns_entries (slice_index rows t) (backwards table.columns) (first_columns table))) [] [] d old)
+    → TablesPassed all rows room (t + 1) tables d here.places → TablesPassed all rows room t (table ∷ tables) done old
+then_tables all rows room t w s done d table tables old e here more =
+    let count : t + 1 + length tables ≡ t + suc (length tables) = omega arith in
+    let sum : d + bit_claims tables ≡ done + (committed_claims (backwards table.columns) (first_columns table) + bit_claims tables) = omega arith in
+    record {
+      places = more.places;
+      goes = same_due (sym (walked_append (columns_entries (slice_index rows t) (backwards table.columns) (first_columns table)) (table_entries rows (t + 1) tables))) (then_go here.goes more.goes);
+      state = subst (λ n. Between all rows room n [] (done + (committed_claims (backwards table.columns) (first_columns table) + bit_claims tables)) more.places) count
+          (subst (λ x. Between all rows room (t + 1 + length tables) [] x more.places) sum more.state);
+    }
+
 opens : (all : List TableShape) (rows : List ℕ) (room t : ℕ) (table : TableShape) (tables : List TableShape) (done : ℕ) (ps : List Place) → slice_get all t ≡ Some table → AllByRecursion (λ c. c < length table.columns) (first_columns table)
     → Between all rows room t (table ∷ tables) done ps → Open all rows room t (total first_columns tables) (all_sources tables) (backwards table.columns) (first_columns table) done ps
 opens all rows room t table tables done ps at low h =
@@ -135,14 +149,5 @@ tables_pass all rows room t (table ∷ tables) done ps at fits h =
       size = omega arith;
       enough = omega arith;
     } in
-    let more = tables_pass all rows room (t + 1) tables (done + committed_claims (backwards table.columns) (first_columns table)) here.places (λ k other e. subst (λ n. slice_get all n ≡ Some other) (omega arith) (at (suc k) other e)) fits between in
-    let count : t + 1 + length tables ≡ t + suc (length tables) = omega arith in
-    let sum : done + committed_claims (backwards table.columns) (first_columns table) + bit_claims tables ≡ done + (committed_claims (backwards table.columns) (first_columns table) + bit_claims tables) = omega arith in
-    record {
-      places = more.places;
-      goes = same_due _ _ _ _ _ (sym (walked_append (columns_entries (slice_index rows t) (backwards table.columns) (first_columns table)) (table_entries rows (t + 1) tables)))
-          (then_go _ _ _ (columns_stages all (slice_index rows t) t (backwards table.columns) (first_columns table)) (table_stages all rows (t + 1) tables)
-          (walked (columns_entries (slice_index rows t) (backwards table.columns) (first_columns table))) (walked (table_entries rows (t + 1) tables)) here.goes more.goes);
-      state = subst (λ n. Between all rows room n [] (done + (committed_claims (backwards table.columns) (first_columns table) + bit_claims tables)) more.places) count
-          (subst (λ d. Between all rows room (t + 1 + length tables) [] d more.places) sum more.state);
-    }
+    then_tables all rows room t (total first_columns tables) (all_sources tables) done (done + committed_claims (backwards table.columns) (first_columns table)) table tables ps refl here
+    (tables_pass all rows room (t + 1) tables (done + committed_claims (backwards table.columns) (first_columns table)) here.places (λ k other e. subst (λ n. slice_get all n ≡ Some other) (omega arith) (at (suc k) other e)) fits between)
