@@ -6,7 +6,7 @@ use m3_tool::Status;
 use std::test::Fail;
 
 /// Sums of words of 32 bits, which a channel takes from the rows and gives to boundaries.
-const ADDER: &str = "\
+pub(super) const ADDER: &str = "\
 channel sums : 3;
 boundary pull sums (1, 2, 3);
 boundary pull sums (0xffffffff, 1, 0);

@@ -4,6 +4,8 @@
 #[cfg(test)]
 mod channels;
 #[cfg(test)]
+mod counting;
+#[cfg(test)]
 mod ends;
 #[cfg(test)]
 mod lowering;
