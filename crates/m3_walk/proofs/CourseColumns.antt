@@ -22,6 +22,7 @@ use Rattle.eval_reduce.specs.Virtual.{column_of, vars_on}
 use Rattle.proof_plan.specs.declared.plan_entry.PlanEntry.TheVariants.{Draw}
 use Rattle.proof_plan.specs.Plan as plans
 use Rattle.proof_plan.specs.Plan.{claims_after, column_entries, columns_entries, committed_claims, first_columns, form_sources, is_committed, kind_entries, merge_entries, sources, times_in}
+use Rattle.proof_plan.proofs.Bounded.{all_append}
 use Rattle.proof_plan.proofs.SmallShape.{all_from}
 use Rattle.m3_walk.specs.declared.stage.Stage.{Stage}
 use Rattle.m3_walk.specs.declared.stage.Stage.TheVariants as stage
@@ -29,8 +30,9 @@ use Rattle.m3_walk.specs.Course.{column_stages, columns_stages, form_stages, mer
 use Rattle.m3_walk.specs.Linking.{AllOfVars, IsOne, Place, is_elsewhere, is_place, places_on}
 use Rattle.m3_walk.proofs.CourseChannels.{kept_at, walked_append}
 use Rattle.m3_walk.proofs.CourseForms.{BlockFits, column_there, form_goes, form_stages_are, form_vars, kind_stages, merge_goes}
-use Rattle.m3_walk.proofs.CoursePlaces.{all-append, all-elsewhere, all_filtered, all_parts, count-append, count-elsewhere, count-other_table, count-places_on, count_on, elsewhere, here, is_here, is_one, none-elsewhere, others-elsewhere, parted, place, times-append, twice-elsewhere}
+use Rattle.m3_walk.proofs.CoursePlaces.{all-elsewhere, all_parts, count-append, count-elsewhere, count-other_table, count-places_on, count_on, elsewhere, here, is_here, is_one, none-elsewhere, others-elsewhere, parted, place, times-append, twice-elsewhere}
 use Rattle.m3_walk.proofs.CourseSteps.{Goes, none_go, same_due, same_left, then_go, unequal}
+use Rattle.m3_walk.proofs.Taking.{all_passed}
 
 -- ---- how many claims are on the first columns
 abbrev pub below : ℕ → List ℕ → ℕ
@@ -242,7 +244,7 @@ others_stand : (all : List TableShape) (rows : List ℕ) (room t w s : ℕ) (col
     → Before all rows room t w s column before claimed done old ps → AllByRecursion (Stands all rows t (length before)) (elsewhere t (length before) ps)
 others_stand all rows room t w s column before claimed done old ps h =
     let c = length before in
-    subst (AllByRecursion (Stands all rows t c)) (sym h.rest) (all_filtered (Stands all rows t (suc c)) (Stands all rows t c) (is_elsewhere t c) (lower all rows t c) old h.state.stand)
+    subst (AllByRecursion (Stands all rows t c)) (sym h.rest) (all_passed (Stands all rows t (suc c)) (Stands all rows t c) (is_elsewhere t c) (lower all rows t c) old h.state.stand)
 
 -- how many claims there are
 record Counted (t c : ℕ) (old ps : List Place) : Type 0 where
@@ -305,7 +307,7 @@ kind_passes all rows room t w s table column before claimed done old ps (Virtual
       goes = same_left (ap (λ l. kept_at room [] (l ++ more)) (others-elsewhere t c ps (ap length h.one) ∙ h.rest))
           (form_goes room table.columns t c n f ps (omega arith) (block_fits (take c table.columns) column (ceil_log (slice_index rows t)) f has) h.one);
       state = record {
-        stand = all-append (Stands all rows t c) (elsewhere t c old) more (subst (AllByRecursion (Stands all rows t c)) h.rest (others_stand all rows room t w s column before claimed done old ps h)) (sources_stand all rows t c table f column next.table_is (form_sources f) from_form);
+        stand = all_append (Stands all rows t c) (elsewhere t c old) more (subst (AllByRecursion (Stands all rows t c)) h.rest (others_stand all rows room t w s column before claimed done old ps h)) (sources_stand all rows t c table f column next.table_is (form_sources f) from_form);
         counts = λ d l. count-append t d (elsewhere t c old) more
             ∙ (λ i. (count-elsewhere t c t d old (λ e f. omega arith) ∙ h.state.counts d (omega arith)) i + count-places_on t (form_vars f n) d (form_sources f) i) ∙ sym (times-append d claimed (form_sources f));
         others = λ u d other l at. count-append u d (elsewhere t c old) more
@@ -338,7 +340,7 @@ column_passes all rows room t w s table column before claimed done ps next h =
             places = ps;
             goes = none_go _;
             state = record {
-              stand = subst (AllByRecursion (Stands all rows t c)) (all-elsewhere t c ps (count ∙ none)) (all_filtered (Stands all rows t (suc c)) (Stands all rows t c) (is_elsewhere t c) (lower all rows t c) ps h.stand);
+              stand = subst (AllByRecursion (Stands all rows t c)) (all-elsewhere t c ps (count ∙ none)) (all_passed (Stands all rows t (suc c)) (Stands all rows t c) (is_elsewhere t c) (lower all rows t c) ps h.stand);
               counts = λ d l. h.counts d (omega arith);
               others = h.others;
               size = omega arith;
@@ -348,7 +350,7 @@ column_passes all rows room t w s table column before claimed done ps next h =
       | false ↦ λ e.
           let at = column_there all t c table column next.table_is next.column_is in
           let some = some_there (times_in c claimed) e in
-          let m = merged room t c n (times_in c claimed) ps (omega arith) count (all_filtered (Stands all rows t (suc c)) (λ (p : Place). p.vars ≡ n) (is_place t c) (own_vars all rows t (suc c) c column at) ps h.stand) some in
+          let m = merged room t c n (times_in c claimed) ps (omega arith) count (all_passed (Stands all rows t (suc c)) (λ (p : Place). p.vars ≡ n) (is_place t c) (own_vars all rows t (suc c) c column at) ps h.stand) some in
           same_pass (ap (λ gs. merge_stages t c n (times_in c claimed) ++ gs) (sym (form_stages_are all (slice_index rows t) t c table column next.table_is next.column_is)))
           (sym (walked_append (merge_entries n (times_in c claimed)) (kind_entries column.kind))) refl
           (then_passed m (kind_passes all rows room t w s table column before claimed done ps m.places column.kind next (record { state = h; some = some; one = m.one; rest = m.rest }) refl next.fits.kind))

@@ -26,12 +26,13 @@ use Rattle.zerocheck.specs.Group.{names, names_step}
 use Rattle.zerocheck.proofs.FirstLaws.{Fitting, all_fitting}
 use Rattle.eval_reduce.specs.Virtual.{column_of, vars_on}
 use Rattle.proof_plan.specs.Plan.{first_columns, group_columns, times_in}
+use Rattle.proof_plan.proofs.Bounded.{all_append}
 use Rattle.proof_plan.proofs.SmallShape.{all_from}
 use Rattle.m3_walk.specs.Linking.{Place, places_on}
 use Rattle.m3_walk.proofs.CourseChannels.{flushed_places, leaf_places}
 use Rattle.m3_walk.proofs.CourseForms.{column_there}
 use Rattle.m3_walk.proofs.CourseGroups.{constrained_places, constraint_places, group_places}
-use Rattle.m3_walk.proofs.CoursePlaces.{all-append, count-append, count-other_table, count-places_on, count_on, times-append}
+use Rattle.m3_walk.proofs.CoursePlaces.{count-append, count-other_table, count-places_on, count_on, times-append}
 
 -- ---- a column that is there, with 2 ^ v values per row
 pub record HasWidth (columns : List ColumnShape) (v c : ℕ) : Type 0 where
@@ -110,8 +111,8 @@ selector_wide columns (Some s) h = (selected columns s (slice_get columns s) ref
 flush_wide : (columns : List ColumnShape) (fs : List FlushShape) → AllByRecursion (λ (f : FlushShape). AllByRecursion (HasOneValue columns) f.columns × IsSelector columns f.selector) fs → AllByRecursion (HasWidth columns 0) (flat_map named_columns fs)
 flush_wide columns [] h = tt
 flush_wide columns (f ∷ fs) h =
-    all-append (HasWidth columns 0) (named_columns f) (flat_map named_columns fs)
-    (all-append (HasWidth columns 0) (selector_columns f.selector) f.columns (selector_wide columns f.selector h.0.1) (values_wide columns f.columns h.0.0)) (flush_wide columns fs h.1)
+    all_append (HasWidth columns 0) (named_columns f) (flat_map named_columns fs)
+    (all_append (HasWidth columns 0) (selector_columns f.selector) f.columns (selector_wide columns f.selector h.0.1) (values_wide columns f.columns h.0.0)) (flush_wide columns fs h.1)
 
 -- ---- claims on columns of table t, which stand for these columns
 pub record IsThere (all : List TableShape) (rows : List ℕ) (p : Place) : Type 0 where
@@ -134,8 +135,8 @@ both_stand all rows t table ps qs cs ds a b = record {
   counts = λ c. count-append t c ps qs ∙ (λ i. a.counts c i + b.counts c i) ∙ sym (times-append c cs ds);
   others = λ u c h. count-append u c ps qs ∙ (λ i. a.others u c h i + b.others u c h i);
   size = length-append ps qs ∙ (λ i. a.size i + b.size i) ∙ sym (length-append cs ds);
-  there = all-append (IsThere all rows) ps qs a.there b.there;
-  low = all-append (λ c. c < length table.columns) cs ds a.low b.low;
+  there = all_append (IsThere all rows) ps qs a.there b.there;
+  low = all_append (λ c. c < length table.columns) cs ds a.low b.low;
 }
 
 on_there : (all : List TableShape) (rows : List ℕ) (t n v : ℕ) (table : TableShape) → slice_get all t ≡ Some table → n ≡ ceil_log (slice_index rows t) + v → (cs : List ℕ) → AllByRecursion (HasWidth table.columns v) cs → AllByRecursion (IsThere all rows) (places_on t n cs)
@@ -228,7 +229,7 @@ parts_count all rows f g t (table ∷ tables) h (suc k) c other e =
 parts_there : (all : List TableShape) (rows : List ℕ) (f : ℕ → TableShape → List Place) (g : TableShape → List ℕ) (t : ℕ) (tables : List TableShape) → AllStandFor all rows f g t tables → AllByRecursion (IsThere all rows) (parts f t tables)
 parts_there all rows f g t [] h = tt
 parts_there all rows f g t (table ∷ tables) h =
-    all-append (IsThere all rows) (f t table) (parts f (t + 1) tables) (first_stands all rows f g t table tables h).there (parts_there all rows f g (t + 1) tables (later_stand all rows f g t table tables h))
+    all_append (IsThere all rows) (f t table) (parts f (t + 1) tables) (first_stands all rows f g t table tables h).there (parts_there all rows f g (t + 1) tables (later_stand all rows f g t table tables h))
 
 abbrev pub total : (TableShape → List ℕ) → List TableShape → ℕ
 total g [] = 0
@@ -271,11 +272,11 @@ all_started shape rows fits =
     let b = parts (λ t table. constraint_places (slice_index rows t) t table) 0 all in
     let are : started_places shape rows ≡ a ++ b = (λ i. flushed_parts rows 0 all i ++ constrained_parts rows 0 all i) in
     record {
-      there = subst (AllByRecursion (IsThere all rows)) (sym are) (all-append (IsThere all rows) a b (parts_there all rows (flush_part rows) flush_names 0 all f) (parts_there all rows (λ t table. constraint_places (slice_index rows t) t table) group_names 0 all g));
+      there = subst (AllByRecursion (IsThere all rows)) (sym are) (all_append (IsThere all rows) a b (parts_there all rows (flush_part rows) flush_names 0 all f) (parts_there all rows (λ t table. constraint_places (slice_index rows t) t table) group_names 0 all g));
       counts = λ t c table at.
           ap (count_on t c) are ∙ count-append t c a b
           ∙ (λ i. (ap (λ n. count_on n c a) (sym (from_none t)) ∙ parts_count all rows (flush_part rows) flush_names 0 all f t c table at) i + (ap (λ n. count_on n c b) (sym (from_none t)) ∙ parts_count all rows (λ t table. constraint_places (slice_index rows t) t table) group_names 0 all g t c table at) i)
           ∙ sym (times-append c (flush_names table) (group_names table));
       size = ap length are ∙ length-append a b ∙ (λ i. parts_size all rows (flush_part rows) flush_names 0 all f i + parts_size all rows (λ t table. constraint_places (slice_index rows t) t table) group_names 0 all g i) ∙ sym (total_first all);
-      low = λ t table at. all-append (λ c. c < length table.columns) (flush_names table) (group_names table) (flushes_stand shape rows t table fits at).low (groups_stand shape rows t table fits at (tabulate (max_log_values + 1) (λ v. v))).low;
+      low = λ t table at. all_append (λ c. c < length table.columns) (flush_names table) (group_names table) (flushes_stand shape rows t table fits at).low (groups_stand shape rows t table fits at (tabulate (max_log_values + 1) (λ v. v))).low;
     }

@@ -121,18 +121,9 @@ is_one t c n (p ∷ ps) e h =
     ] refl e h
 
 -- ---- what holds of all
-pub all-append : {X : Type 0} (P : X → Type 0) (xs ys : List X) → AllByRecursion P xs → AllByRecursion P ys → AllByRecursion P (xs ++ ys)
-all-append P [] ys h k = k
-all-append P (x ∷ xs) ys h k = (h.0, all-append P xs ys h.1 k)
-
 pub all_mapped : {X : Type 0} (P Q : X → Type 0) → ((x : X) → P x → Q x) → (xs : List X) → AllByRecursion P xs → AllByRecursion Q xs
 all_mapped P Q f [] h = tt
 all_mapped P Q f (x ∷ xs) h = (f x h.0, all_mapped P Q f xs h.1)
-
-pub all_filtered : {X : Type 0} (P Q : X → Type 0) (q : X → Bool) → ((x : X) → q x ≡ true → P x → Q x) → (xs : List X) → AllByRecursion P xs → AllByRecursion Q (filter q xs)
-all_filtered P Q q f [] h = tt
-all_filtered P Q q f (x ∷ xs) h =
-    elim (q x) as (λ b. q x ≡ b → AllByRecursion Q (cond b (x ∷ filter q xs) (filter q xs))) [ true ↦ λ e. (f x e h.0, all_filtered P Q q f xs h.1) | false ↦ λ e. all_filtered P Q q f xs h.1 ] refl
 
 pub all_parts : (P : Place → Type 0) (t c : ℕ) (ps : List Place) → AllByRecursion P (filter (is_place t c) ps) → AllByRecursion P (elsewhere t c ps) → AllByRecursion P ps
 all_parts P t c [] h k = tt
