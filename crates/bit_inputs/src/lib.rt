@@ -5,4 +5,4 @@ mod committed;
 mod packed;
 
 pub use committed::{Claimed, Column, claims_on, lists_of, table_of_bits};
-pub use packed::words_of;
+pub use packed::{prover_of, words_of};

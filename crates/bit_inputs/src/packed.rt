@@ -1,8 +1,11 @@
-//! A table of bits in words.
+//! A table of bits in words, and the prover that has it.
 
-ghost use Rattle.std.specs.Prelude.{◌≡◌, IfOk, IsTrue};
+ghost use Rattle.std.specs.Prelude.{◌≡◌, ◌^◌, length, IfOk, IsTrue};
+ghost use Rattle.table_shape.specs.Placement.{places_log};
 ghost use Rattle.tensor_laws.specs.Tensor.{bits_of_table};
+ghost use Rattle.bit_claim.specs.BatchFollowing.{IsNew};
 
+use bit_claim::{BitProver, Placement};
 use reduction_inputs::{Lack, push_bits};
 use std::alloc::Global;
 use tower_field::{B128, Tower};
@@ -51,4 +54,30 @@ pub fn words_of(alloc: Global, table: &[B128]) -> Result<Vec<B128>, Lack>
         return Err(Lack);
     }
     Ok(words)
+}
+
+/// The prover that has the table of bits, in words or with an element for each.
+pub fn prover_of(
+    alloc: Global,
+    placement: &Placement,
+    claims: u32,
+    table: &[B128],
+    packed: bool,
+) -> Result<BitProver, Lack>
+    requires whole { length table.now ≡ 2 ^ places_log placement.now }
+    ensures new { IfOk result (λ prover. IsNew placement.now prover) }
+    ensures room { IfOk result (λ prover. prover.room ≡ claims) }
+    ensures bits { IfOk result (λ prover. prover.bits ≡ table.now) }
+{
+    if packed {
+        let words = words_of(alloc, table)?;
+        return match BitProver::begin_packed(alloc, placement, claims, words.as_slice()) {
+            Ok(prover) => Ok(prover),
+            Err(_) => Err(Lack),
+        };
+    }
+    match BitProver::begin(alloc, placement, claims, table) {
+        Ok(prover) => Ok(prover),
+        Err(_) => Err(Lack),
+    }
 }

@@ -11,7 +11,7 @@ ghost use Rattle.bit_claim.specs.Batching.{summed, BitValue as OnBits};
 ghost use Rattle.bit_claim.specs.Bits.{bits, IsPlaced};
 
 use bit_claim::{BitProver, BitWalk, Placement, place};
-use bit_inputs::{Claimed, Column, claims_on, lists_of, table_of_bits};
+use bit_inputs::{Claimed, Column, claims_on, lists_of, prover_of, table_of_bits};
 use poly_forms::{CheckKind, DrawKind};
 use reduction_inputs::{Lack, rows_fit, shape_of, value_at};
 use std::alloc::Global;
@@ -20,13 +20,41 @@ use sumcheck::{ColumnClaim, Entry, Steps};
 use tower_field::{B128, Tower};
 use walk_example::meet;
 
+/// How a case is run.
+#[derive(Clone, Copy)]
+struct Way {
+    /// The walk has copies of the claims, and not the prover.
+    walk_copies: bool,
+    /// The prover has the table of bits in words.
+    packed: bool,
+}
+
+const WAYS: [Way; 4] = [
+    Way {
+        walk_copies: true,
+        packed: false,
+    },
+    Way {
+        walk_copies: false,
+        packed: false,
+    },
+    Way {
+        walk_copies: true,
+        packed: true,
+    },
+    Way {
+        walk_copies: false,
+        packed: true,
+    },
+];
+
 /// The walk of claims and its prover, of which one has copies of them.
 fn begun(
     alloc: Global,
     placement: &Placement,
     table: &[B128],
     claims: Vec<ColumnClaim>,
-    walk_copies: bool,
+    way: Way,
 ) -> Result<(BitWalk, BitProver), Lack>
     requires whole { length table.now ≡ 2 ^ places_log placement.now }
     requires bits { (F : Filling) × (bits F placement.now ≡ table.now) }
@@ -38,10 +66,8 @@ fn begun(
     let Ok(mut walk) = BitWalk::begin(alloc, placement, count) else {
         return Err(Lack);
     };
-    let Ok(mut prover) = BitProver::begin(alloc, placement, count, table) else {
-        return Err(Lack);
-    };
-    if walk_copies {
+    let mut prover = prover_of(alloc, placement, count, table, way.packed)?;
+    if way.walk_copies {
         walk.enter(claims.as_slice());
         prover.enter_owned(claims);
     } else {
@@ -116,7 +142,7 @@ fn meets(
     alloc: Global,
     case: Case<'_>,
     claimed: &[Claimed],
-    walk_copies: bool,
+    way: Way,
 ) -> Result<(Option<Entry>, u32, Option<Entry>, Option<u128>), Fail> {
     let shape = shape_of(alloc, case.text)?;
     if !rows_fit(&shape, case.rows) {
@@ -126,7 +152,7 @@ fn meets(
     let lists = lists_of(alloc, case.columns)?;
     let table = table_of_bits(alloc, &placement, &lists)?;
     let claims = claims_on(alloc, &placement, &lists, claimed)?;
-    let (walk, prover) = begun(alloc, &placement, table.as_slice(), claims, walk_copies)?;
+    let (walk, prover) = begun(alloc, &placement, table.as_slice(), claims, way)?;
     let met = side_by_side(alloc, walk, prover)?;
     let left = match &met.left {
         Some((point, value)) => {
@@ -219,12 +245,14 @@ fn columns_of_all_levels(rt: HostRuntime) -> Result<(), Fail> {
             columns,
         };
         let claimed = [0, 1, 2, 3, 4, 5, 6, 7].map(|c| on(0, c, 30, 0));
-        let met = meets(alloc, case, &claimed, true)?;
-        assert_eq!(rt; met, (joining(7), entries, None, Some(value)));
+        for way in WAYS {
+            let met = meets(alloc, case, &claimed, way)?;
+            assert_eq!(rt; met, (joining(7), entries, None, Some(value)));
+        }
         for c in 0..8usize {
             let mut wrong = claimed;
             wrong[c].error = 1;
-            let met = meets(alloc, case, &wrong, true)?;
+            let met = meets(alloc, case, &wrong, WAYS[c % 4])?;
             assert_eq!(rt; met, (joining(7), 1, ROUND, None));
         }
     }
@@ -256,14 +284,48 @@ fn columns_of_one_size(rt: HostRuntime) -> Result<(), Fail> {
             on(1, 0, 80, 0),
             on(0, 0, 90, 0),
         ];
-        for walk_copies in [true, false] {
-            let met = meets(alloc, case, &claimed, walk_copies)?;
+        for way in WAYS {
+            let met = meets(alloc, case, &claimed, way)?;
             let expected = if hides {
                 (joining(5), 20, None, Some(0x38))
             } else {
                 (joining(5), 1, ROUND, None)
             };
             assert_eq!(rt; met, expected);
+        }
+    }
+    Ok(())
+}
+
+#[test]
+fn fewer_claims_than_words(rt: HostRuntime) -> Result<(), Fail> {
+    let alloc = rt.alloc();
+    let case = Case {
+        text: TIES,
+        rows: &[2, 1],
+        columns: &[
+            values_in(0, 0, &[1, 0, 1, 1, 0, 0, 1, 0, 1, 1, 1, 1, 0, 0, 0, 1]),
+            values_in(0, 1, &[200, 17]),
+            values_in(0, 2, &[9, 14, 3, 5]),
+            values_in(1, 0, &[HIGH]),
+            values_in(1, 1, &[1 << 63, 5]),
+        ],
+    };
+    // three and four claims on four words
+    let claimed = [
+        on(0, 0, 40, 0),
+        on(1, 1, 70, 0),
+        on(0, 1, 60, 0),
+        on(1, 0, 80, 0),
+    ];
+    for claimed in [&claimed[..3], &claimed[..]] {
+        let [first, second, third, fourth] = WAYS;
+        let met = meets(alloc, case, claimed, first)?;
+        assert_eq!(rt; met.1, 20);
+        assert!(rt; met.3.is_some());
+        for way in [second, third, fourth] {
+            let again = meets(alloc, case, claimed, way)?;
+            assert_eq!(rt; again, met);
         }
     }
     Ok(())
@@ -278,12 +340,12 @@ fn few_claims(rt: HostRuntime) -> Result<(), Fail> {
         columns: &[values_in(0, 0, &[1]), values_in(0, 1, &[200])],
     };
     let whole = (joining(0), 18, None, Some(0x9));
-    for walk_copies in [true, false] {
-        assert_eq!(rt; meets(alloc, case, &[], walk_copies)?, whole);
+    for way in WAYS {
+        assert_eq!(rt; meets(alloc, case, &[], way)?, whole);
         for c in [0, 1] {
-            let met = meets(alloc, case, &[on(0, c, 0, 0)], walk_copies)?;
+            let met = meets(alloc, case, &[on(0, c, 0, 0)], way)?;
             assert_eq!(rt; met, whole);
-            let met = meets(alloc, case, &[on(0, c, 0, 1)], walk_copies)?;
+            let met = meets(alloc, case, &[on(0, c, 0, 1)], way)?;
             assert_eq!(rt; met, (joining(0), 1, ROUND, None));
         }
     }

@@ -12,7 +12,7 @@ ghost use Rattle.sumcheck.specs.Machine.{Filling};
 ghost use Rattle.table_shape.specs.Limits.{max_rows};
 ghost use Rattle.table_shape.specs.Placement.{places_log};
 ghost use Rattle.table_shape.specs.declared.shape.FlushShape.{FlushShape as Flush};
-ghost use Rattle.bit_claim.specs.BatchFollowing.{FollowsBatch, IsNew};
+ghost use Rattle.bit_claim.specs.BatchFollowing.{FollowsBatch};
 ghost use Rattle.bit_claim.specs.Bits.{bits, IsPlaced};
 ghost use Rattle.channel_products.specs.DescentFields.{flush_in};
 ghost use Rattle.channel_products.specs.DescentProver.{FollowsProduct};
@@ -29,7 +29,7 @@ ghost use Rattle.zerocheck.specs.Group.{Group as Constraints, group_of};
 ghost use Rattle.zerocheck.specs.ZeroProver.{FollowsZero};
 
 use bit_claim::{BitProver, BitWalk, Placement, place};
-use bit_inputs::{Claimed, claims_on, table_of_bits, words_of};
+use bit_inputs::{Claimed, claims_on, prover_of, table_of_bits};
 use channel_products::{ProductProver, ProductWalk, collapse, leaf};
 use cube_mle::{eq_table, mle_at};
 use eval_reduce::{MergeProver, MergeWalk, ShiftProver, ShiftWalk};
@@ -398,32 +398,6 @@ fn bit_lists(alloc: Global, log: u32) -> Result<ColumnTables, Lack>
     Ok(tables)
 }
 
-/// The prover that has the table of bits, in words or with an element for each.
-fn bit_prover(
-    alloc: Global,
-    placement: &Placement,
-    claims: u32,
-    table: &[B128],
-    packed: bool,
-) -> Result<BitProver, Lack>
-    requires whole { length table.now ≡ 2 ^ places_log placement.now }
-    ensures new { IfOk result (λ prover. IsNew placement.now prover) }
-    ensures room { IfOk result (λ prover. prover.room ≡ claims) }
-    ensures bits { IfOk result (λ prover. prover.bits ≡ table.now) }
-{
-    if packed {
-        let words = words_of(alloc, table)?;
-        return match BitProver::begin_packed(alloc, placement, claims, words.as_slice()) {
-            Ok(prover) => Ok(prover),
-            Err(_) => Err(Lack),
-        };
-    }
-    match BitProver::begin(alloc, placement, claims, table) {
-        Ok(prover) => Ok(prover),
-        Err(_) => Err(Lack),
-    }
-}
-
 /// The walk of claims on committed columns and its prover, the claims stated.
 fn begin_bits(
     alloc: Global,
@@ -443,7 +417,7 @@ fn begin_bits(
         return Err(Lack);
     };
     walk.enter(claims);
-    let mut prover = bit_prover(alloc, placement, count, table, packed)?;
+    let mut prover = prover_of(alloc, placement, count, table, packed)?;
     prover.enter(claims);
     Ok((walk, prover))
 }
