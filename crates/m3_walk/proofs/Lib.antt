@@ -1,4 +1,5 @@
 pub mod AdderPlan
+pub mod ColumnCourse
 pub mod Course
 pub mod CourseChannels
 pub mod CourseColumns
@@ -21,6 +22,7 @@ pub mod Leaving
 pub mod LeavingFits
 pub mod Linked
 pub mod Parts
+pub mod StageSteps
 pub mod Stages
 pub mod TakesSteps
 pub mod Taking

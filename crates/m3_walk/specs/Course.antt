@@ -1,6 +1,6 @@
 -- The reductions of the tables of a shape on numbers of rows, in the order in which they come.
 -- Source: docs/PROOF.md, "The plan" and "The reductions of a proof".
-use Rattle.std.specs.Prelude.{ℕ, ◌≤◌, ◌+◌, ◌==◌, ltb, cond, List, [], ◌∷◌, ◌++◌, length, map, slice_index, Option, None, Some}
+use Rattle.std.specs.Prelude.{◌≡◌, ℕ, ◌≤◌, ◌+◌, ◌^◌, ◌==◌, ltb, cond, List, [], ◌∷◌, ◌++◌, length, map, slice_index, Option, None, Some}
 use Rattle.std.specs.List.{flat_map}
 use Rattle.list_laws.specs.CeilLog.{ceil_log}
 use Rattle.cube_laws.specs.Sums.{tabulate}
@@ -10,6 +10,8 @@ use Rattle.sumcheck.specs.declared.entry.Entry.{Entry}
 use Rattle.sumcheck.specs.declared.entry.Entry.TheVariants as due
 use Rattle.table_shape.specs.declared.shape.ColumnShape.{ColumnShape}
 use Rattle.table_shape.specs.declared.shape.TableShape.{TableShape}
+use Rattle.table_shape.specs.Fits.{ShapeFits}
+use Rattle.table_shape.specs.Limits.{max_rows}
 use Rattle.table_shape.specs.Parts.{ShapeParts}
 use Rattle.table_shape.specs.Placement.{blocks, places_log}
 use Rattle.channel_products.specs.declared.flushed.Flushed.{Flushed}
@@ -31,9 +33,13 @@ use Rattle.bit_claim.specs.Batching as batch
 use Rattle.ring_switch.specs.Switching as switch
 use Rattle.proof_plan.specs.declared.plan_entry.PlanEntry.{PlanEntry}
 use Rattle.proof_plan.specs.declared.plan_entry.PlanEntry.TheVariants.{Root, Message, Draw, Constant, Queries}
-use Rattle.proof_plan.specs.Plan.{backwards, bit_claims, claims_after, first_columns, flush_count, sources, times_in}
+use Rattle.walk_chain.specs.Chain.{Suits, plan_of}
+use Rattle.proof_plan.specs.Plan.{backwards, bit_claims, claims_after, first_columns, flush_count, plan, sources, times_in}
 use Rattle.m3_walk.specs.declared.stage.Stage.{Stage}
 use Rattle.m3_walk.specs.declared.stage.Stage.TheVariants as stage
+use Rattle.m3_walk.specs.Kept.{none_wait}
+use Rattle.m3_walk.specs.Linked.{linking}
+use Rattle.m3_walk.specs.Linking.{sizes}
 
 -- ---- where there is one
 abbrev pub when : {X : Type 0} → (X → Stage) → Option X → List Stage
@@ -113,3 +119,15 @@ claim_count (table ∷ tables) = length (first_columns table) + source_count tab
 pub record IsEnough (shape : ShapeParts) (room : ℕ) : Type 0 where
   pub products : flush_count shape.tables ≤ room
   pub columns : claim_count shape.tables ≤ room
+
+-- ---- what is due of all of them, and that each can be entered when its turn comes
+abbrev pub ArePlans : Type 0
+ArePlans = (shape : ShapeParts) (rows : List ℕ) (room : ℕ) → ShapeFits shape → length rows ≡ length shape.tables → ((t : ℕ) → slice_index rows t ≤ max_rows) → IsEnough shape room
+    → plan_of linking (sizes (none_wait room)) (course shape rows) ≡ walked (plan shape rows)
+
+abbrev pub AreSuited : Type 0
+AreSuited = (shape : ShapeParts) (rows : List ℕ) (room : ℕ) → ShapeFits shape → length rows ≡ length shape.tables → ((t : ℕ) → slice_index rows t ≤ max_rows) → IsEnough shape room
+    → Suits linking (sizes (none_wait room)) (course shape rows)
+
+abbrev pub AreShort : Type 0
+AreShort = (shape : ShapeParts) (rows : List ℕ) → ShapeFits shape → length (course shape rows) ≤ 2 ^ 17
