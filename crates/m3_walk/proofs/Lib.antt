@@ -1,6 +1,5 @@
 pub mod AdderPlan
 pub mod ColumnCourse
-pub mod Course
 pub mod CourseChannels
 pub mod CourseColumns
 pub mod CourseEnd
@@ -9,6 +8,7 @@ pub mod CourseForms
 pub mod CourseGroups
 pub mod CourseLength
 pub mod CoursePlaces
+pub mod CoursePlan
 pub mod CourseSteps
 pub mod CourseTables
 pub mod Ending

@@ -1,4 +1,4 @@
-use Rattle.m3_walk.proofs.Course.{course_is_the_plan, course_suits}
+use Rattle.m3_walk.proofs.CoursePlan.{course_is_the_plan, course_suits}
 use Rattle.m3_walk.proofs.CourseLength.{course_is_short}
 use Rattle.m3_walk.proofs.laws.courses_are_plans.Goals as goal
 
