@@ -1,8 +1,8 @@
 //! Walks beside their provers, for timing. By the first word, over 2 ^ N values: three claims on a
 //! column merged (`merge`), a claim on a column shifted within blocks of 32 (`shift`), the carries
 //! of an adder of 32 bits (`zero`), the product of a flush of 2 ^ N rows (`product`), claims on three
-//! columns whose bits stand in 2 ^ N places (`bits`), or the value of the bits of 2 ^ N words turned
-//! into one of the words (`switch`). Prints the sum of the last message.
+//! columns whose bits stand in 2 ^ N places (`bits`, and `packed` from words), or the value of the bits
+//! of 2 ^ N words turned into one of the words (`switch`). Prints the sum of the last message.
 
 #![tactic(auto)]
 
@@ -29,7 +29,7 @@ ghost use Rattle.zerocheck.specs.Group.{Group as Constraints, group_of};
 ghost use Rattle.zerocheck.specs.ZeroProver.{FollowsZero};
 
 use bit_claim::{BitProver, BitWalk, Placement, place};
-use bit_inputs::{Claimed, claims_on, table_of_bits};
+use bit_inputs::{Claimed, claims_on, prover_of, table_of_bits};
 use channel_products::{ProductProver, ProductWalk, collapse, leaf};
 use cube_mle::{eq_table, mle_at};
 use eval_reduce::{MergeProver, MergeWalk, ShiftProver, ShiftWalk};
@@ -404,6 +404,7 @@ fn begin_bits(
     placement: &Placement,
     table: &[B128],
     claims: &[ColumnClaim],
+    packed: bool,
 ) -> Result<(BitWalk, BitProver), Lack>
     requires whole { length table.now ≡ 2 ^ places_log placement.now }
     requires bits { (F : Filling) × (bits F placement.now ≡ table.now) }
@@ -416,9 +417,7 @@ fn begin_bits(
         return Err(Lack);
     };
     walk.enter(claims);
-    let Ok(mut prover) = BitProver::begin(alloc, placement, count, table) else {
-        return Err(Lack);
-    };
+    let mut prover = prover_of(alloc, placement, count, table, packed)?;
     prover.enter(claims);
     Ok((walk, prover))
 }
@@ -435,8 +434,9 @@ fn claimed_at(column: u32) -> Claimed
     }
 }
 
-/// A claim on each of three columns, whose bits stand in a table of 2 ^ log places.
-fn batched(alloc: Global, log: u32) -> Result<B128, Lack>
+/// A claim on each of three columns, whose bits stand in a table of 2 ^ log places, in words or with an
+/// element for each.
+fn batched(alloc: Global, log: u32, packed: bool) -> Result<B128, Lack>
     requires { (8 ≤ log) × (log ≤ 20) }
 {
     let shape = shape_of(alloc, COMMITTED)?;
@@ -456,6 +456,7 @@ fn batched(alloc: Global, log: u32) -> Result<B128, Lack>
         &placement,
         table.as_slice(),
         claims.as_slice(),
+        packed,
     )?;
     meet_all(alloc, &mut walk, &mut prover)
 }
@@ -610,8 +611,9 @@ fn main(rt: HostRuntime) -> io::Result<()> {
         "merge" => merged(rt.alloc(), log),
         "shift" => shifted(rt.alloc(), log),
         "product" => multiplied(rt.alloc(), log),
-        "bits" if log >= 8 => batched(rt.alloc(), log),
-        "bits" => Err(Lack),
+        "bits" if log >= 8 => batched(rt.alloc(), log, false),
+        "packed" if log >= 10 => batched(rt.alloc(), log, true),
+        "bits" | "packed" => Err(Lack),
         "switch" if log <= 17 => switched(rt.alloc(), log),
         "switch" => Err(Lack),
         _ => carries(rt.alloc(), log),
