@@ -1,7 +1,7 @@
 //! The work of `crates/walk_bench` in plain Rust, by the same forms: three claims on a column merged,
 //! a claim on a shifted column, the carries of an adder, the product of a flush layer by layer,
-//! claims on three columns of bits, and the value of the bits of words turned into one of the words,
-//! round by round with the same draws.
+//! claims on three columns of bits, by elements and by words, and the value of the bits of words
+//! turned into one of the words, round by round with the same draws.
 //!
 //! `walks WORK LOG` prints the same number as the program of that crate.
 
@@ -237,6 +237,58 @@ fn columns(weights: &[u128], words: &[u128]) -> Vec<u128> {
     all
 }
 
+/// 128 bits in each word, the lowest first.
+fn words_of(bits: &[u128]) -> Vec<u128> {
+    let word = |bits: &[u128]| bits.iter().rev().fold(0, |word, bit| word << 1 | bit);
+    bits.chunks(128).map(word).collect()
+}
+
+/// For each byte of a word the sums of the weights of its bits.
+fn sums_by_byte(weights: &[u128]) -> Vec<[u128; 256]> {
+    let sums = |weights: &[u128]| {
+        let mut sums = [0; 256];
+        for k in 1..256usize {
+            let low = k.trailing_zeros() as usize;
+            sums[k] = sums[k & (k - 1)] ^ weights[low];
+        }
+        sums
+    };
+    weights.chunks(8).map(sums).collect()
+}
+
+/// The same as `batch` from the packed table: the first seven rounds over 128 sums for each claim.
+fn packed_batch(log: u32) -> u128 {
+    let columns_of_words = [1, 2, 4].map(|seed| words_of(&bits(log - 2, seed)));
+    let points = [0, 1, 2].map(|j| (0..log as u128 - 2).map(|k| 100 * j + k).collect::<Vec<_>>());
+    let lambda: u128 = 7;
+    let (mut claim, mut power) = (0, 1);
+    let (mut parts, mut high_parts) = (vec![], vec![]);
+    for (words, point) in columns_of_words.iter().zip(&points) {
+        let high = eq_table(&point[7..]);
+        let sums = columns(&high, words);
+        claim ^= extension(&sums, &point[..7]).times(power);
+        parts.push(eq_table(&point[..7]).into_iter().map(|value| value.times(power)).collect());
+        parts.push(sums);
+        high_parts.push(high);
+        power = power.times(lambda);
+    }
+    let products = |row: &[u128]| row.chunks(2).fold(0, |sum, pair| sum ^ pair[0].times(pair[1]));
+    let finals = rounds(&mut parts, 2, claim, 9, products);
+    let (mut weights, mut words) = (vec![], vec![]);
+    let by_byte = sums_by_byte(&eq_table(&(0..7).map(|k| 9 + 2 * k).collect::<Vec<_>>()));
+    let folded = |word: &u128| (0..16).fold(0, |sum, k| sum ^ by_byte[k][(word >> (8 * k) & 255) as usize]);
+    for (j, high) in high_parts.iter().enumerate() {
+        let low = Multiples::new(finals[2 * j]);
+        weights.extend(high.iter().map(|value| low.times(*value)));
+        words.extend(columns_of_words[j].iter().map(folded));
+    }
+    weights.resize(1 << (log - 7), 0);
+    words.resize(1 << (log - 7), 0);
+    let claim = products(&finals);
+    let finals = rounds(&mut [weights, words], 2, claim, 23, |row| row[0].times(row[1]));
+    finals[1]
+}
+
 /// Element u has the bits u of all elements.
 fn transposed(columns: &[u128]) -> Vec<u128> {
     let row = |u: usize| (0..128).fold(0, |row, v| row | (columns[v] >> u & 1) << v);
@@ -278,6 +330,7 @@ fn main() {
         "shift" => shift(log),
         "product" => product(log),
         "bits" => batch(log),
+        "packed" => packed_batch(log),
         "switch" => switch(log),
         _ => zero(log),
     };

@@ -10,7 +10,7 @@ trap 'rm -rf "$folder"' EXIT
 (cd crates/walk_bench && rt run > "$folder/log" 2>&1) || { cat "$folder/log"; exit 1; }
 cp crates/walk_bench/out/walk_bench "$folder/proved"
 rustc --edition 2021 -O -C target-cpu=x86-64-v2 -o "$folder/plain" bench/walks.rs
-for work in "merge 17" "shift 17" "zero 17" "product 16" "product 20" "bits 20" "switch 15"; do
+for work in "merge 17" "shift 17" "zero 17" "product 16" "product 20" "bits 20" "packed 20" "switch 15"; do
     for pass in $(seq "$passes"); do
         for name in proved plain; do
             TIMEFORMAT="$work, $name: %U seconds"
