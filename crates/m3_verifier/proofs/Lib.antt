@@ -1,0 +1,4 @@
+pub mod QuerySteps
+pub mod ReadingSteps
+pub mod VerdictSteps
+pub mod WalkSteps
